@@ -1,2 +1,3 @@
+pub mod CorrectionLemmas
 pub mod MoveLemmas
 pub mod NumberLemmas

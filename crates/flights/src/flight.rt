@@ -67,11 +67,7 @@ impl Copied for Flight {
 }
 
 // A flight equal to this one, but for its program, which is this one.
-fn under(
-    alloc: Global,
-    flight: &Flight,
-    program: &Shared<Deployed>,
-) -> Result<Flight, NoMemory>
+fn under(alloc: Global, flight: &Flight, program: &Shared<Deployed>) -> Result<Flight, NoMemory>
     ensures { IfOk result (λ copy. copy ≡ record flight.now { program = program.now }) }
 {
     let asked = both(flight.request.copied(alloc), flight.inputs.copied(alloc));

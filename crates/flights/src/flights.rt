@@ -215,7 +215,8 @@ impl Flights {
         ensures ok { OnOk result (self.new.list ≡ map (corrected_flight number program.now) self.old.list) }
         ensures err { OnErr result (self.new ≡ self.old) }
     {
-        self.list = all_corrected(alloc, self.list.as_slice(), number, program)?;
+        let list = all_corrected(alloc, self.list.as_slice(), number, program)?;
+        self.list = list;
         Ok(())
     }
 

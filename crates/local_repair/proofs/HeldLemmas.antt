@@ -37,7 +37,7 @@ rows_ordered (x ∷ xs) rows o = rows_ordered xs (after_entry rows x) (ordered-a
 of_written : (base : List Cell) (entries : List Entry) (n : ℕ) → rows_made base (take n (all_written entries)) ≡ rows_after base (take n entries)
 of_written base entries n = ap (rows_made base) (take-map wrote n entries) ∙ made_rows base (take n entries)
 
-rows_alike : (base : List Cell) (entries after : List Entry) (n : ℕ) → all_written after ≡ all_written entries → rows_after base (take n entries) ≡ rows_after base (take n after)
+pub rows_alike : (base : List Cell) (entries after : List Entry) (n : ℕ) → all_written after ≡ all_written entries → rows_after base (take n entries) ≡ rows_after base (take n after)
 rows_alike base entries after n same = sym (of_written base entries n) ∙ ap (λ w. rows_made base (take n w)) (sym same) ∙ of_written base after n
 
 -- ---- one entry

@@ -1,6 +1,7 @@
 pub mod AgreeLemmas
 pub mod CallsLemmas
 pub mod ChangedLemmas
+pub mod CorrectionLemmas
 pub mod CurrentLemmas
 pub mod FoldLemmas
 pub mod GivesLemmas

@@ -1,7 +1,8 @@
 // A program in place of another one: which entries are marked for it.
-ghost use Rattle.std.specs.Prelude.{◌≡◌, ◌<◌, length, map, OnOk, OnErr};
-ghost use Rattle.request_log.specs.Entries.{corrected};
+ghost use Rattle.std.specs.Prelude.{◌≡◌, ◌<◌, true, false, length, map, OnOk, OnErr};
+ghost use Rattle.request_log.specs.Entries.{corrected, has_program};
 ghost use Rattle.local_repair.specs.Corrections.{IsHandlerMarked, IsMarkedByHandlers};
+ghost use Rattle.local_repair.specs.Programs.{HasItsHandler};
 
 use crate::programs::{has_its_handler, has_program};
 use lang_core::{NoMemory, Shared};
@@ -9,12 +10,19 @@ use log_index::EntryMarks;
 use request_log::{Deployed, Entry, KeptEntry, Log};
 use std::alloc::Global;
 
+// Whether an entry has the program of the number, and another handler made its record.
+fn is_other(entry: &Entry, number: u64) -> bool
+    ensures { result ≡ false → has_program number entry.now ≡ true → HasItsHandler entry.now }
+{
+    has_program(entry, number) && !has_its_handler(entry)
+}
+
 // Marks the entry at a place, if it has the program of the number and another handler made its record.
 fn mark_if_other(marks: &mut EntryMarks, place: usize, entry: &Entry, number: u64)
     requires { place < length marks.old.reads }
     ensures { IsHandlerMarked number place entry.now marks.old marks.new }
 {
-    if has_program(entry, number) && !has_its_handler(entry) {
+    if is_other(entry, number) {
         marks.mark(place);
     }
 }

@@ -1,4 +1,5 @@
 pub mod ChangeLemmas
+pub mod CorrectLemmas
 pub mod EntryLemmas
 pub mod FindLemmas
 pub mod FoldedFindLemmas

@@ -82,7 +82,7 @@ impl Drop for Entry {
 }
 
 // An entry of a log is never taken out, so what each of them holds is paid for good.
-const _: () = prove!(size_of::<Entry>() == 224);
+const _: () = prove!(size_of::<Entry>() == 232);
 
 /// An entry as a log keeps it, seen as the entry: behind a pointer, so that a log moves few bytes for each when one is put
 /// between others, and one that is put into a log is handed on as it stands.

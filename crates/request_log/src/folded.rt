@@ -75,7 +75,10 @@ impl Drop for Folded {
 impl Copied for Folded {
     fn copied(&self, alloc: Global) -> Result<Folded, NoMemory> {
         let given = both(self.request.copied(alloc), self.inputs.copied(alloc));
-        let asked = both(both(self.origin.copied(alloc), self.program.copied(alloc)), given);
+        let asked = both(
+            both(self.origin.copied(alloc), self.program.copied(alloc)),
+            given,
+        );
         let called = both(self.calls.copied(alloc), self.answers.copied(alloc));
         let did = both(self.slots.copied(alloc), self.response.copied(alloc));
         let (asked, did) = both(asked, both(called, did))?;
@@ -153,7 +156,10 @@ fn folded_with(alloc: Global, entry: &Entry, made: &Made) -> Result<Folded, NoMe
 {
     let given = both(entry.request.copied(alloc), entry.inputs.copied(alloc));
     let program = entry.under.now().get().text();
-    let asked = both(both(entry.origin.copied(alloc), program.copied(alloc)), given);
+    let asked = both(
+        both(entry.origin.copied(alloc), program.copied(alloc)),
+        given,
+    );
     let called = both(
         made.trace.calls.copied(alloc),
         made.trace.answers.copied(alloc),

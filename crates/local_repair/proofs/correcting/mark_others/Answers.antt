@@ -1,0 +1,16 @@
+use Rattle.std.proofs.Common.{ap, length, arith}
+use Rattle.local_repair.proofs.CorrectionLemmas.{more_marked, none_marked}
+use Rattle.local_repair.proofs.correcting.mark_others.Goals as goal
+
+pub loop-place-init : goal.loop-place-init
+loop-place-init c = none_marked c.args.number c.args.entries.now c.args.marks.now
+
+pub mark_if_other-requires : goal.mark_if_other-requires
+mark_if_other-requires c =
+    let many = ap length c.loop-place.invariant.reads in
+    omega arith
+
+pub loop-place-preserved : goal.loop-place-preserved
+loop-place-preserved c =
+    more_marked c.args.number c.loop-place.place c.args.entries.now c.index-entries-place.result c.args.marks.now c.loop-place.marks c.mark_if_other.new.marks
+    c.loop-place-test.true c.index-entries-place.is c.loop-place.invariant (rw c.entry.ensures at c.mark_if_other.ensures)
