@@ -7,7 +7,7 @@ use Rattle.lang_base.specs.Characters.{is_visible}
 use Rattle.lang_base.specs.Texts.{same_text}
 use Rattle.lang_tree.specs.Forms.{is_path}
 use Rattle.lang_core.specs.Names.{is_name, is_name_byte}
-use Rattle.repair_messages.specs.declared.kinds.Kind.TheVariants.{Create, Replace, Delete, ReplaceResponse, Retry, Fold}
+use Rattle.repair_messages.specs.declared.kinds.Kind.TheVariants.{Create, Replace, Delete, ReplaceResponse, Retry, Fold, Deploy, Correct, Rules}
 use Rattle.authorise_rules.specs.Forms.{is_rule, rules_fit, senders_fit, users_fit}
 use Rattle.authorise_rules.specs.Reading.{read_of}
 use Rattle.authorise_rules.specs.Spelled.{Spells, is_passed_over, kinds_word, lines_of, rule_line, rule_words, senders_word, text_of, users_word, verb_word, words_of, worded}
@@ -90,6 +90,9 @@ kinds_visible (kinds.Only Delete) = refl
 kinds_visible (kinds.Only ReplaceResponse) = refl
 kinds_visible (kinds.Only Retry) = refl
 kinds_visible (kinds.Only Fold) = refl
+kinds_visible (kinds.Only Deploy) = refl
+kinds_visible (kinds.Only Correct) = refl
+kinds_visible (kinds.Only Rules) = refl
 
 senders_visible : (s : Senders) → senders_fit s ≡ true → are_visible (senders_word s) ≡ true
 senders_visible senders.Any fit = refl

@@ -7,7 +7,7 @@ use Rattle.std.specs.Cmp.Lexicographic.{bytes_decides}
 use Rattle.lang_base.specs.Texts.{same_text}
 use Rattle.lang_tree.specs.Forms.{is_path}
 use Rattle.lang_core.specs.Names.{is_name, is_who}
-use Rattle.repair_messages.specs.declared.kinds.Kind.TheVariants.{Create, Replace, Delete, ReplaceResponse, Retry, Fold}
+use Rattle.repair_messages.specs.declared.kinds.Kind.TheVariants.{Create, Replace, Delete, ReplaceResponse, Retry, Fold, Deploy, Correct, Rules}
 use Rattle.authorise_rules.specs.Forms.{senders_fit, users_fit}
 use Rattle.authorise_rules.specs.Reading.{behind_is, kinds_named, path_named, senders_named, user_named, users_named, verb_named}
 use Rattle.authorise_rules.specs.Spelled.{kinds_word, senders_word, users_word, verb_word}
@@ -50,6 +50,9 @@ kinds_again (kinds.Only Delete) = refl
 kinds_again (kinds.Only ReplaceResponse) = refl
 kinds_again (kinds.Only Retry) = refl
 kinds_again (kinds.Only Fold) = refl
+kinds_again (kinds.Only Deploy) = refl
+kinds_again (kinds.Only Correct) = refl
+kinds_again (kinds.Only Rules) = refl
 
 pub kinds_read : (word : List ℕ) (kind : Kinds) → kinds_named word ≡ Some kind → word ≡ kinds_word kind
 kinds_read word kind e =
@@ -60,7 +63,10 @@ kinds_read word kind e =
     (by_test P (same_text word (codes "delete")) (kinds.Only Delete) _ kind (text_is word (codes "delete"))
     (by_test P (same_text word (codes "replace_response")) (kinds.Only ReplaceResponse) _ kind (text_is word (codes "replace_response"))
     (by_test P (same_text word (codes "retry")) (kinds.Only Retry) _ kind (text_is word (codes "retry"))
-    (by_test P (same_text word (codes "fold")) (kinds.Only Fold) _ kind (text_is word (codes "fold")) (λ n. absurd cc))))))) e
+    (by_test P (same_text word (codes "fold")) (kinds.Only Fold) _ kind (text_is word (codes "fold"))
+    (by_test P (same_text word (codes "deploy")) (kinds.Only Deploy) _ kind (text_is word (codes "deploy"))
+    (by_test P (same_text word (codes "correct")) (kinds.Only Correct) _ kind (text_is word (codes "correct"))
+    (by_test P (same_text word (codes "rules")) (kinds.Only Rules) _ kind (text_is word (codes "rules")) (λ n. absurd cc)))))))))) e
 
 -- ---- senders
 

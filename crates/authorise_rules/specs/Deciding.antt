@@ -4,7 +4,7 @@ use Rattle.std.specs.List.{list_all, list_any}
 use Rattle.std.specs.Option.{option_copied, option_to_list}
 use Rattle.lang_base.specs.Texts.{begins_with, same_text}
 use Rattle.repair_messages.specs.declared.kinds.Kind.{Kind}
-use Rattle.repair_messages.specs.declared.kinds.Kind.TheVariants.{Create, Replace, Delete, ReplaceResponse, Retry, Fold}
+use Rattle.repair_messages.specs.declared.kinds.Kind.TheVariants.{Create, Replace, Delete, ReplaceResponse, Retry, Fold, Deploy, Correct, Rules}
 use Rattle.authorise_rules.specs.declared.asked.Asked.{Asked}
 use Rattle.authorise_rules.specs.declared.asked.Decision.{Decision}
 use Rattle.authorise_rules.specs.declared.asked.Decision.TheVariants as decided
@@ -48,6 +48,9 @@ same_kind Delete Delete = true
 same_kind ReplaceResponse ReplaceResponse = true
 same_kind Retry Retry = true
 same_kind Fold Fold = true
+same_kind Deploy Deploy = true
+same_kind Correct Correct = true
+same_kind Rules Rules = true
 same_kind _ _ = false
 
 -- the kind is this, or any

@@ -5,7 +5,7 @@ use Rattle.lang_base.specs.Memory.{Unless, lacks}
 use Rattle.lang_base.specs.Texts.{same_text}
 use Rattle.lang_tree.specs.Forms.{is_path}
 use Rattle.lang_core.specs.Names.{is_name, is_who}
-use Rattle.repair_messages.specs.declared.kinds.Kind.TheVariants.{Create, Replace, Delete, ReplaceResponse, Retry, Fold}
+use Rattle.repair_messages.specs.declared.kinds.Kind.TheVariants.{Create, Replace, Delete, ReplaceResponse, Retry, Fold, Deploy, Correct, Rules}
 use Rattle.authorise_rules.specs.Spelled.{is_passed_over, lines_of, words_of}
 use Rattle.authorise_rules.specs.declared.refused.RulesRefused.{RulesRefused}
 use Rattle.authorise_rules.specs.declared.refused.RulesRefused.TheVariants as refusal
@@ -34,7 +34,10 @@ kinds_named word =
     else (if same_text word (codes "replace_response") then Some (kinds.Only ReplaceResponse)
     else (if same_text word (codes "retry") then Some (kinds.Only Retry)
     else (if same_text word (codes "fold") then Some (kinds.Only Fold)
-    else None))))))
+    else (if same_text word (codes "deploy") then Some (kinds.Only Deploy)
+    else (if same_text word (codes "correct") then Some (kinds.Only Correct)
+    else (if same_text word (codes "rules") then Some (kinds.Only Rules)
+    else None)))))))))
 
 abbrev pub senders_named : List ℕ → Option Senders
 senders_named word =

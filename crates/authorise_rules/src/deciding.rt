@@ -19,6 +19,9 @@ fn same_kind(left: Kind, right: Kind) -> bool
         (Kind::ReplaceResponse, Kind::ReplaceResponse) => true,
         (Kind::Retry, Kind::Retry) => true,
         (Kind::Fold, Kind::Fold) => true,
+        (Kind::Deploy, Kind::Deploy) => true,
+        (Kind::Correct, Kind::Correct) => true,
+        (Kind::Rules, Kind::Rules) => true,
         _ => false,
     }
 }

@@ -6,6 +6,7 @@
 
 mod asked;
 mod deciding;
+mod given;
 mod printing;
 mod reading;
 mod refused;
@@ -15,6 +16,7 @@ mod words;
 
 pub use asked::{Asked, Decision};
 pub use deciding::decide;
+pub use given::{GivenRules, read_given};
 pub use printing::print_rules;
 pub use reading::read_rules;
 pub use refused::RulesRefused;

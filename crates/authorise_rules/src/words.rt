@@ -39,6 +39,9 @@ pub(crate) fn kinds_named(word: &str) -> Option<Kinds>
         "replace_response" => Some(Kinds::Only(Kind::ReplaceResponse)),
         "retry" => Some(Kinds::Only(Kind::Retry)),
         "fold" => Some(Kinds::Only(Kind::Fold)),
+        "deploy" => Some(Kinds::Only(Kind::Deploy)),
+        "correct" => Some(Kinds::Only(Kind::Correct)),
+        "rules" => Some(Kinds::Only(Kind::Rules)),
         _ => None,
     }
 }

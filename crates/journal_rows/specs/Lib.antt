@@ -1,4 +1,5 @@
 pub mod Journals
 pub mod Keys
+pub mod Programs
 pub mod Weights
 pub mod Words

@@ -1,8 +1,9 @@
 -- What rows weigh.
 use Rattle.std.specs.Prelude.{ℕ, ◌+◌, ◌-◌, ◌^◌, List, Option, Some, None, length, min, sum_by}
+use Rattle.lang_grammar.specs.Printing.{text_of}
 use Rattle.lang_core.specs.declared.request.Request.{Request}
 use Rattle.journal_rows.specs.declared.orders.Command.{Command}
-use Rattle.journal_rows.specs.declared.orders.Command.TheVariants.{Replace, Create}
+use Rattle.journal_rows.specs.declared.orders.Command.TheVariants.{Replace, Create, Deploy, Correct, Rules}
 use Rattle.journal_rows.specs.declared.orders.OrderedRow.{OrderedRow}
 use Rattle.journal_rows.specs.declared.row.Row.{Row}
 use Rattle.journal_rows.specs.declared.row.Row.TheVariants.{Asked, Took, Answered, Sent, Noted, SawAnswer, Ordered}
@@ -15,17 +16,20 @@ abbrev pub wanted_bytes : Option Request → ℕ
 wanted_bytes None = 0
 wanted_bytes (Some q) = request_bytes q
 
--- the bytes of an order's texts
+-- the bytes of an order's texts: of a program as it is printed, of rules as they were given
 abbrev pub command_bytes : Command → ℕ
 command_bytes (Replace id method path body) = length path + length body
 command_bytes (Create before after q) = request_bytes q
+command_bytes (Deploy p) = length (text_of p)
+command_bytes (Correct k p) = length (text_of p)
+command_bytes (Rules g) = length g.text
 command_bytes command = 0
 
 abbrev pub order_bytes : OrderedRow → ℕ
 order_bytes o =
     length o.token + length o.who + command_bytes o.command + (wanted_bytes o.original + wanted_bytes o.repaired)
 
--- the bytes of the paths, bodies, users and tokens that stand in a row
+-- the bytes of the paths, bodies, users, tokens, programs and rules that stand in a row
 abbrev pub row_bytes : Row → ℕ
 row_bytes (Asked a) = request_bytes a.request
 row_bytes (Took t) = wanted_bytes t.desired + length t.who

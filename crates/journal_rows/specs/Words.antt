@@ -15,7 +15,7 @@ use Rattle.journal_rows.specs.declared.caller.NotedRow.{NotedRow}
 use Rattle.journal_rows.specs.declared.caller.SawAnswerRow.{SawAnswerRow}
 use Rattle.journal_rows.specs.declared.caller.SentRow.{SentRow}
 use Rattle.journal_rows.specs.declared.orders.About.{About}
-use Rattle.journal_rows.specs.declared.orders.About.TheVariants.{Request as OfRequest, Post as OfPost}
+use Rattle.journal_rows.specs.declared.orders.About.TheVariants.{Request as OfRequest}
 use Rattle.journal_rows.specs.declared.orders.Command.{Command}
 use Rattle.journal_rows.specs.declared.orders.Command.TheVariants.{Cancel, Restore, Replace, Fold}
 use Rattle.journal_rows.specs.declared.orders.OrderedRow.{OrderedRow}
@@ -196,7 +196,7 @@ given_version last = option_map_or (λ (a : AnsweredRow). a.answer_version) last
 
 abbrev pub is_about : ℕ → About → Bool
 is_about id (OfRequest n) = nat_eq n id
-is_about id (OfPost name) = false
+is_about id about = false
 
 abbrev pub comes_from : Origin → TookRow → Bool
 comes_from Outside t = false

@@ -14,6 +14,8 @@ pub struct AskedRow {
     /// What was asked first, and what its runs draw from outside, both of which the entry holds too.
     pub request: Shared<Request>,
     pub inputs: Shared<Inputs>,
+    /// The program under which it came, by its number.
+    pub program: u64,
 }
 
 impl Drop for AskedRow {
@@ -23,6 +25,7 @@ impl Drop for AskedRow {
             origin: _,
             request: _,
             inputs: _,
+            program: _,
         } = self;
     }
 }
@@ -137,6 +140,7 @@ impl Copied for AskedRow {
             origin,
             request: asked.0,
             inputs: asked.1,
+            program: self.program,
         })
     }
 }
@@ -203,6 +207,7 @@ impl Same for AskedRow {
             && self.origin.is(&other.origin)
             && self.request.is(&other.request)
             && same_inputs(self.inputs.get(), other.inputs.get())
+            && self.program == other.program
     }
 }
 

@@ -7,6 +7,7 @@ mod callee;
 mod caller;
 mod keys;
 mod orders;
+mod programs;
 mod row;
 mod rows;
 mod verdict;

@@ -1,7 +1,9 @@
 // Orders of operators, and the row that one leaves.
 ghost use Rattle.std.specs.Prelude.{◌≡◌, IfOk};
 
-use lang_core::{Copied, Method, NoMemory, Request, Same, Text};
+use authorise_rules::GivenRules;
+use lang_core::{Copied, Method, NoMemory, Request, Same, Shared, Text};
+use lang_programs::ProgramText;
 use repair_messages::{PostName, copied_pair};
 use std::alloc::Global;
 
@@ -30,6 +32,13 @@ pub enum Command {
     Retry(PostName),
     /// Folds the entries up to and including that of this number: nothing of them is repaired any more.
     Fold(u64),
+    /// Gives the service another program from now on. What came before keeps the one under which it came.
+    Deploy(Shared<ProgramText>),
+    /// Gives the service another program in place of the one of this number, for all that runs under that one: from now on, and
+    /// for the past too.
+    Correct(u64, Shared<ProgramText>),
+    /// Gives the service other rules from now on.
+    Rules(Shared<GivenRules>),
 }
 
 /// What an accepted order is about.
@@ -39,6 +48,10 @@ pub enum About {
     Request(u64),
     /// This post.
     Post(PostName),
+    /// The program that the order brought, by the number that it has from then on.
+    Program(u64),
+    /// The service's rules.
+    Rules,
 }
 
 /// An order was accepted.
@@ -123,6 +136,11 @@ impl Copied for Command {
             } => copied_create(alloc, *before, *after, request),
             Command::Retry(name) => Ok(Command::Retry(*name)),
             Command::Fold(id) => Ok(Command::Fold(*id)),
+            Command::Deploy(program) => Ok(Command::Deploy(program.copied(alloc)?)),
+            Command::Correct(number, program) => {
+                Ok(Command::Correct(*number, program.copied(alloc)?))
+            }
+            Command::Rules(rules) => Ok(Command::Rules(rules.copied(alloc)?)),
         }
     }
 }
@@ -165,6 +183,11 @@ impl Same for Command {
             ) => before.is(other_before) && after.is(other_after) && request.is(other_request),
             (Command::Retry(name), Command::Retry(other_name)) => *name == *other_name,
             (Command::Fold(id), Command::Fold(other_id)) => *id == *other_id,
+            (Command::Deploy(program), Command::Deploy(other_program)) => program.is(other_program),
+            (Command::Correct(number, program), Command::Correct(other_number, other_program)) => {
+                *number == *other_number && program.is(other_program)
+            }
+            (Command::Rules(rules), Command::Rules(other_rules)) => rules.is(other_rules),
             _ => false,
         }
     }

@@ -3,6 +3,7 @@ ghost use Rattle.std.specs.Prelude.{◌≡◌, ◌+◌, ◌<◌, ◌≤◌, [], 
 ghost use Rattle.std.specs.Option.{option_copied};
 ghost use Rattle.lang_lists.specs.Ends.{last_end};
 ghost use Rattle.journal_rows.specs.Keys.{row_key};
+ghost use Rattle.journal_rows.specs.Programs.{program_count};
 ghost use Rattle.journal_rows.specs.Weights.{journal_weight};
 ghost use Rattle.journal_rows.specs.Words.{given_at, last_taken, noted_at, ordered};
 
@@ -10,6 +11,7 @@ use crate::callee::{AnsweredRow, TookRow};
 use crate::caller::NotedRow;
 use crate::keys::row_key;
 use crate::orders::OrderedRow;
+use crate::programs::programs_after;
 use crate::row::Row;
 use crate::weights::weight;
 use crate::{versions, words};
@@ -26,6 +28,8 @@ pub struct Rows {
     // Of their keys.
     index: HashIndex,
     weight: u64,
+    // How many there are.
+    programs: u64,
 }
 
 impl Drop for Rows {
@@ -34,6 +38,7 @@ impl Drop for Rows {
             rows: _,
             index: _,
             weight: _,
+            programs: _,
         } = self;
     }
 }
@@ -42,13 +47,14 @@ impl Model for Rows {
     ghost use Rattle.std.specs.Prelude.{◌≡◌};
     ghost use Rattle.journal_rows.specs.Journals.{Journal, journal_of};
     ghost use Rattle.journal_rows.specs.Keys.{AreKeys};
+    ghost use Rattle.journal_rows.specs.Programs.{program_count};
     ghost use Rattle.journal_rows.specs.Weights.{journal_weight};
 
     ghost Value = { Journal };
 
     ghost view = { λ j. journal_of j.rows j.index.spare };
 
-    ghost invariant = { λ j. (j.weight ≡ journal_weight j.rows.items) × AreKeys j.index.keys j.rows.items };
+    ghost invariant = { λ j. (j.weight ≡ journal_weight j.rows.items) × AreKeys j.index.keys j.rows.items × (j.programs ≡ program_count j.rows.items) };
 }
 
 impl Rows {
@@ -60,6 +66,7 @@ impl Rows {
             rows: Vec::new(alloc),
             index: HashIndex::new(alloc),
             weight: 0,
+            programs: 1,
         }
     }
 
@@ -89,6 +96,13 @@ impl Rows {
         ensures { result ≡ journal_weight self.now.rows }
     {
         self.weight
+    }
+
+    /// How many programs there are: the one that the service began with, and one for each order that brought one.
+    pub fn programs(&self) -> u64
+        ensures { result ≡ program_count self.now.rows }
+    {
+        self.programs
     }
 
     /// The last version of a caller's call that was taken; None exactly where none was. It costs with the rows of the
@@ -157,10 +171,12 @@ impl Rows {
     {
         let more = weight(&row);
         let key = row_key(&row);
+        let programs = programs_after(self.programs, &row);
         self.index.reserve(1)?;
         self.rows.push(row)?;
         self.index.push(key);
         self.weight = self.weight.saturating_add(more);
+        self.programs = programs;
         Ok(())
     }
 
@@ -173,6 +189,7 @@ impl Rows {
             rows,
             index,
             weight: self.weight,
+            programs: self.programs,
         })
     }
 }

@@ -41,6 +41,8 @@ fn command_bytes(command: &Command) -> u64
     match command {
         Command::Replace { path, body, .. } => path.len().saturating_add(body.len()),
         Command::Create { request, .. } => request_bytes(request),
+        Command::Deploy(program) | Command::Correct(_, program) => program.get().text().len(),
+        Command::Rules(rules) => rules.get().text().len(),
         _ => 0,
     }
 }
@@ -71,8 +73,8 @@ fn row_bytes(row: &Row) -> u64
     }
 }
 
-/// What a row weighs: 64, and the bytes of the paths, bodies, users and tokens that stand in it. A weight that no number
-/// of 64 bits holds is the greatest of them.
+/// What a row weighs: 64, and the bytes of the paths, bodies, users, tokens, programs and rules that stand in it. A weight
+/// that no number of 64 bits holds is the greatest of them.
 pub fn weight(row: &Row) -> u64
     ensures { result ≡ row_weight row.now }
 {

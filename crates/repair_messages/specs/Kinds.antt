@@ -2,7 +2,7 @@
 use Rattle.std.specs.Prelude.{ℕ, Bool, List, Option, Some, None, if◌then◌else◌, codes, nat_eq}
 use Rattle.lang_core.specs.declared.request.Request.{Request}
 use Rattle.repair_messages.specs.declared.kinds.Kind.{Kind}
-use Rattle.repair_messages.specs.declared.kinds.Kind.TheVariants.{Create, Replace, Delete, ReplaceResponse, Retry, Fold}
+use Rattle.repair_messages.specs.declared.kinds.Kind.TheVariants.{Create, Replace, Delete, ReplaceResponse, Retry, Fold, Deploy, Correct, Rules}
 use Rattle.repair_messages.specs.declared.messages.SetMessage.{SetMessage}
 
 -- a request is to be made, or to stand in place of an earlier one
@@ -31,3 +31,6 @@ kind_word Delete = codes "delete"
 kind_word ReplaceResponse = codes "replace_response"
 kind_word Retry = codes "retry"
 kind_word Fold = codes "fold"
+kind_word Deploy = codes "deploy"
+kind_word Correct = codes "correct"
+kind_word Rules = codes "rules"

@@ -2,7 +2,7 @@
 use Rattle.std.specs.Prelude.{ℕ, Bool, true, false, List, [], ◌∷◌, Option, codes, find, nat_eq}
 use Rattle.std.specs.Cmp.Lexicographic.{pointwise}
 use Rattle.repair_messages.specs.declared.refusals.RefusalWord.{RefusalWord}
-use Rattle.repair_messages.specs.declared.refusals.RefusalWord.TheVariants.{NoMemory, Full, NotYet, Gone, NoFlight, Denied, Unknown, Foreign, NoSuchRequest, NotHeld, NotOutside, TooOld, NotQuiet}
+use Rattle.repair_messages.specs.declared.refusals.RefusalWord.TheVariants.{NoMemory, Full, NotYet, Gone, NoFlight, Denied, Unknown, Foreign, NoSuchRequest, NotHeld, NotOutside, TooOld, NotQuiet, NoSuchProgram}
 
 -- how each is spelled
 abbrev pub word_text : RefusalWord → List ℕ
@@ -19,6 +19,7 @@ word_text NotHeld = codes "notheld"
 word_text NotOutside = codes "notoutside"
 word_text TooOld = codes "tooold"
 word_text NotQuiet = codes "notquiet"
+word_text NoSuchProgram = codes "nosuchprogram"
 
 -- whether a number stands behind it
 abbrev pub has_number : RefusalWord → Bool
@@ -32,6 +33,7 @@ abbrev pub word_status : RefusalWord → ℕ
 word_status Denied = 403
 word_status Unknown = 404
 word_status NoSuchRequest = 404
+word_status NoSuchProgram = 404
 word_status NotYet = 409
 word_status NotHeld = 409
 word_status NotOutside = 409
@@ -44,7 +46,8 @@ word_status word = 500
 
 -- those that a reply may say: that a service never had a post, or has no such flight, it tells nobody else
 abbrev pub said_words : List RefusalWord
-said_words = NoMemory ∷ Full ∷ NotYet ∷ Gone ∷ Denied ∷ Unknown ∷ NoSuchRequest ∷ NotHeld ∷ NotOutside ∷ TooOld ∷ NotQuiet ∷ []
+said_words =
+    NoMemory ∷ Full ∷ NotYet ∷ Gone ∷ Denied ∷ Unknown ∷ NoSuchRequest ∷ NotHeld ∷ NotOutside ∷ TooOld ∷ NotQuiet ∷ NoSuchProgram ∷ []
 
 abbrev pub is_spelled : List ℕ → RefusalWord → Bool
 is_spelled text word = pointwise nat_eq (word_text word) text

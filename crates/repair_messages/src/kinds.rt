@@ -19,6 +19,12 @@ pub enum Kind {
     Retry,
     /// That the first entries of a log are folded: nothing of them is repaired any more.
     Fold,
+    /// Another program from now on.
+    Deploy,
+    /// Another program in place of an earlier one, for the past too.
+    Correct,
+    /// Other rules from now on.
+    Rules,
 }
 
 /// What the message asks of a receiver: a deletion where it has no request, else a replacement where the receiver
@@ -60,5 +66,8 @@ pub fn kind_word(kind: Kind) -> &'static str
         Kind::ReplaceResponse => "replace_response",
         Kind::Retry => "retry",
         Kind::Fold => "fold",
+        Kind::Deploy => "deploy",
+        Kind::Correct => "correct",
+        Kind::Rules => "rules",
     }
 }

@@ -32,6 +32,8 @@ pub enum RefusalWord {
     TooOld,
     /// The entry of this number isn't quiet, so that it can't be folded.
     NotQuiet,
+    /// There is no program of this number.
+    NoSuchProgram,
 }
 
 /// A refusal: its word, and what it carries, or 0.
@@ -42,7 +44,7 @@ pub struct Refusal {
 }
 
 /// The words that a reply may say. That a service never had a post, or has no such flight, it tells nobody else.
-const SAID: [RefusalWord; 11] = [
+const SAID: [RefusalWord; 12] = [
     RefusalWord::NoMemory,
     RefusalWord::Full,
     RefusalWord::NotYet,
@@ -54,6 +56,7 @@ const SAID: [RefusalWord; 11] = [
     RefusalWord::NotOutside,
     RefusalWord::TooOld,
     RefusalWord::NotQuiet,
+    RefusalWord::NoSuchProgram,
 ];
 
 fn spelled<'a>(words: &'a [RefusalWord], text: &str) -> Option<&'a RefusalWord>
@@ -88,6 +91,7 @@ impl RefusalWord {
             RefusalWord::NotOutside => "notoutside",
             RefusalWord::TooOld => "tooold",
             RefusalWord::NotQuiet => "notquiet",
+            RefusalWord::NoSuchProgram => "nosuchprogram",
         }
     }
 
@@ -107,7 +111,7 @@ impl RefusalWord {
     {
         match self {
             RefusalWord::Denied => 403,
-            RefusalWord::Unknown | RefusalWord::NoSuchRequest => 404,
+            RefusalWord::Unknown | RefusalWord::NoSuchRequest | RefusalWord::NoSuchProgram => 404,
             RefusalWord::NotYet | RefusalWord::NotHeld | RefusalWord::NotOutside => 409,
             RefusalWord::TooOld | RefusalWord::NotQuiet => 409,
             RefusalWord::Gone => 410,
