@@ -4,8 +4,10 @@ use Rattle.std.specs.Option.{option_map_or}
 use Rattle.lang_core.specs.declared.request.Request.{Request}
 use Rattle.repair_messages.specs.declared.posts.PostName.TheVariants.{Call as OfCall, Reply as OfReply, Fetch as OfFetch}
 use Rattle.authorise_rules.specs.Deciding.{Question, decision}
+use Rattle.authorise_rules.specs.Given.{GivenRules}
 use Rattle.authorise_rules.specs.declared.asked.Decision.TheVariants.{Allow}
 use Rattle.authorise_rules.specs.declared.rule.Rule.{Rule}
+use Rattle.journal_rows.specs.Programs.{rules_now}
 use Rattle.journal_rows.specs.Words.{is_version_of, last_sent}
 use Rattle.journal_rows.specs.declared.callee.TookHow.{TookHow}
 use Rattle.journal_rows.specs.declared.callee.TookHow.TheVariants.{Live, Message}
@@ -14,7 +16,7 @@ use Rattle.journal_rows.specs.declared.caller.SawHow.TheVariants.{Live as SeenLi
 use Rattle.journal_rows.specs.declared.caller.SentRow.{SentRow}
 use Rattle.journal_rows.specs.declared.orders.About.TheVariants.{Request as AboutRequest}
 use Rattle.journal_rows.specs.declared.orders.Command.{Command}
-use Rattle.journal_rows.specs.declared.orders.Command.TheVariants.{Cancel, Restore, Replace, Create, Retry, Fold}
+use Rattle.journal_rows.specs.declared.orders.Command.TheVariants.{Cancel, Restore, Replace, Create, Retry, Fold, Deploy, Correct, Rules}
 use Rattle.journal_rows.specs.declared.row.Row.{Row}
 use Rattle.journal_rows.specs.declared.row.Row.TheVariants.{Took, Noted, SawAnswer, Ordered}
 use Rattle.service_events.specs.State.{Kept}
@@ -50,6 +52,9 @@ subject_in (Retry (OfCall number)) journal = request_sent number journal
 subject_in (Retry (OfReply id)) journal = request_found (AboutRequest id) journal
 subject_in (Retry (OfFetch number)) journal = None
 subject_in (Fold id) journal = None
+subject_in (Deploy p) journal = None
+subject_in (Correct k p) journal = None
+subject_in (Rules g) journal = None
 
 -- ---- a row
 
@@ -67,7 +72,7 @@ abbrev pub AllowsSeen : SawHow → ℕ → Type 0
 AllowsSeen SeenLive rule = rule ≡ 0
 AllowsSeen Fetched rule = Unit {0}
 
--- a repair may stand after these rows: it carries the number of the rule that allows it
+-- a repair may stand after these rows: it carries the number of the one of these rules that allows it
 abbrev pub AllowedOn : List Rule → List Row → Row → Type 0
 AllowedOn rules before (Took t) =
     AllowsTook t.how rules (version_question t.caller t.who (request_known t.caller t.number before) t.desired) t.rule
@@ -78,10 +83,14 @@ AllowedOn rules before (Ordered o) =
     Allows rules (command_question o.command o.who (subject_in o.command before) (request_put o.command (subject_in o.command before))) o.rule
 AllowedOn rules before row = Unit {0}
 
--- each repair in this journal was allowed by these rules, as things stood before it
-abbrev pub Allowed : List Rule → List Row → Type 0
-Allowed rules journal = EachAfter (AllowedOn rules) [] journal
+-- the rules that stood before it are those with which the service began, or the last that an order gave
+abbrev pub AllowedThen : GivenRules → List Row → Row → Type 0
+AllowedThen began before row = AllowedOn (rules_now began before).rules before row
 
--- each repair that a service applied was allowed by its rules
+-- each repair in this journal was allowed, as things and rules stood before it
+abbrev pub Allowed : GivenRules → List Row → Type 0
+Allowed began journal = EachAfter (AllowedThen began) [] journal
+
+-- each repair that a service applied was allowed by the rules that it had then
 abbrev pub IsAllowed : Kept → Type 0
-IsAllowed s = Allowed s.rules s.journal
+IsAllowed s = Allowed s.began s.journal

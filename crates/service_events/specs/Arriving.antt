@@ -35,9 +35,10 @@ accepted a = after a.service (Ok a.answer)
 
 -- ---- an arrival
 
+-- under the newest program
 abbrev pub new_flight : Kept → Origin → Request → Inputs → Flight
 new_flight s origin q i =
-    record { id = free_flight s; origin = origin; request = q; inputs = i; calls = []; numbers = []; changes = 0 }
+    record { id = free_flight s; origin = origin; request = q; inputs = i; program = s.newest; calls = []; numbers = []; changes = 0 }
 
 -- refused where there is too much, this much; else it runs
 abbrev pub admitted : Kept → Origin → Request → Inputs → Option ℕ → After (Result Arrived ArriveRefused)

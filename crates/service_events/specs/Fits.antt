@@ -7,13 +7,16 @@ use Rattle.lang_core.specs.declared.ids.Origin.TheVariants.{Outside, Call}
 use Rattle.lang_core.specs.declared.inputs.Inputs.{Inputs}
 use Rattle.lang_core.specs.declared.request.Request.{Request}
 use Rattle.lang_core.specs.declared.trace.CallMade.{CallMade}
+use Rattle.lang_tree.specs.declared.program.Route.{Route}
+use Rattle.lang_programs.specs.Numbered.{Numbered}
 use Rattle.request_log.specs.Entries.{has_id, find_call, is_alive, IsDistinct}
 use Rattle.request_log.specs.Records.{Record, record_of, recorded_calls}
 use Rattle.request_log.specs.declared.entry.Entry.{Entry}
 use Rattle.request_log.specs.declared.entry.Made.{Made}
 use Rattle.local_repair.specs.Current.{AllRuns}
 use Rattle.local_repair.specs.Histories.{ReplayAsKept}
-use Rattle.journal_rows.specs.Words.{last_sent, named, seen_acked, last_seen, seen_version, claimed, last_noted, noted_version, noted_at, confirmed_version, taken_version, taken_version_of, last_taken_of, is_version_of, wants, asked, asked_count, last_answered, given_version, request_now, is_struck, last_mark, settles, ordered, last_folded, last_row}
+use Rattle.journal_rows.specs.Programs.{is_number, is_replaced, newest_now, program_at, program_count, program_now, rules_now}
+use Rattle.journal_rows.specs.Words.{last_sent, named, seen_acked, last_seen, seen_version, claimed, last_noted, noted_version, noted_at, confirmed_version, taken_version, taken_version_of, last_taken_of, is_version_of, wants, asked, asked_count, last_answered, given_version, request_now, is_struck, last_mark, settles, ordered, folded_by, last_folded, last_row}
 use Rattle.journal_rows.specs.declared.callee.AnsweredRow.{AnsweredRow}
 use Rattle.journal_rows.specs.declared.callee.AskedRow.{AskedRow}
 use Rattle.journal_rows.specs.declared.caller.AckHow.{AckHow}
@@ -26,9 +29,9 @@ use Rattle.journal_rows.specs.declared.caller.SawHow.TheVariants.{Live as SeenLi
 use Rattle.journal_rows.specs.declared.caller.SentRow.{SentRow}
 use Rattle.journal_rows.specs.declared.callee.TookHow.{TookHow}
 use Rattle.journal_rows.specs.declared.orders.About.{About}
-use Rattle.journal_rows.specs.declared.orders.About.TheVariants.{Request as AboutRequest, Post as AboutPost}
+use Rattle.journal_rows.specs.declared.orders.About.TheVariants.{Request as AboutRequest, Program as AboutProgram}
 use Rattle.journal_rows.specs.declared.orders.Command.{Command}
-use Rattle.journal_rows.specs.declared.orders.Command.TheVariants.{Cancel, Restore, Replace, Fold}
+use Rattle.journal_rows.specs.declared.orders.Command.TheVariants.{Cancel, Restore, Replace, Fold, Deploy, Correct}
 use Rattle.journal_rows.specs.declared.orders.OrderedRow.{OrderedRow}
 use Rattle.journal_rows.specs.declared.row.Row.{Row}
 use Rattle.journal_rows.specs.declared.row.Row.TheVariants.{Asked, Took, Acked, Answered, WasConfirmed, Sent, SawAck, Noted, SawAnswer, Confirmed, Ordered}
@@ -152,12 +155,12 @@ IsOrderOn command made = Unit {0}
 
 abbrev pub IsOrderAbout : About → Command → List Row → Type 0
 IsOrderAbout (AboutRequest id) command before = IsOrderOn command (asked id before)
-IsOrderAbout (AboutPost name) command before = Unit {0}
+IsOrderAbout about command before = Unit {0}
 
 -- the request that an order about this finds: what that entry asks by then
 abbrev pub request_found : About → List Row → Option Request
 request_found (AboutRequest id) before = option_map (λ (a : AskedRow). request_now id a.origin a.request before) (asked id before)
-request_found (AboutPost name) before = None
+request_found about before = None
 
 -- the request that an order with this command finds; a fold looks for none
 abbrev pub found_by : Command → About → List Row → Option Request
@@ -354,12 +357,66 @@ pub record IsPast (s : Kept) (e : Entry) : Type 0 where
   pub consumed : IsSomeAnd (record_of e) (λ (r : Record). r.answers ≡ map (answers s) e.slots)
 
 -- the last folded entry is the one that the last fold names, and none is folded where there was no fold. From no rows on, the folded entries
--- replay to what is kept of them, and leave the rows before the others
+-- replay, each under its program, to what is kept of them, and leave the rows before the others
 pub record FitsHorizon (s : Kept) : Type 0 where
   pub within : s.horizon ≤ length s.entries
   pub last : option_map (λ (e : Entry). e.id) (last_or None (folded s)) ≡ last_folded s.journal
   pub each : All (IsPast s) (folded s)
   pub replayed : ReplayAsKept s.setting (folded s) (base s)
+
+-- ---- l. The programs and the rules
+
+-- an order that brings a program is about the number after all that there are, and a correction is of one that there is
+abbrev pub IsProgramOrder : Command → About → List Row → Type 0
+IsProgramOrder (Deploy p) about before = about ≡ AboutProgram (program_count before + 1)
+IsProgramOrder (Correct k p) about before = (about ≡ AboutProgram (program_count before + 1)) × (is_number k before ≡ true)
+IsProgramOrder command about before = Unit {0}
+
+-- an entry is asked for under a program that there is, and in whose place no other one stands
+abbrev pub ProgramsOn : List Row → Row → Type 0
+ProgramsOn before (Asked a) = (is_number a.program before ≡ true) × (is_replaced a.program before ≡ false)
+ProgramsOn before (Ordered o) = IsProgramOrder o.command o.about before
+ProgramsOn before row = Unit {0}
+
+-- it is the program of its number, where this one is the first
+abbrev pub IsThere : List Route → List Row → Numbered → Type 0
+IsThere first journal n = program_at first n.number journal ≡ Some n.program
+
+-- and no other one stands in its place
+pub record IsInUse (first : List Route) (journal : List Row) (n : Numbered) : Type 0 where
+  pub there : IsThere first journal n
+  pub stands : is_replaced n.number journal ≡ false
+
+-- the number of an entry's program is that with which it was asked for, changed in order by each correction
+abbrev pub HasNumber : List Row → Entry → Type 0
+HasNumber journal e = IsSomeAnd (asked e.id journal) (λ (a : AskedRow). e.under.now.number ≡ program_now a.program journal)
+
+-- the program of an entry that isn't folded, and the one that its record was made under
+pub record IsUnder (first : List Route) (journal : List Row) (e : Entry) : Type 0 where
+  pub number : HasNumber journal e
+  pub now : IsInUse first journal e.under.now
+  pub ran : IsThere first journal e.under.ran
+
+-- the program of a folded entry is the one that it had when a fold was ordered
+pub record WasUnder (first : List Route) (journal : List Row) (e : Entry) : Type 0 where
+  pub before : List Row
+  pub order : OrderedRow
+  pub rest : List Row
+  pub is : journal ≡ before ++ Ordered order ∷ rest
+  pub folds : IsSome (folded_by None order.command)
+  pub number : HasNumber before e
+  pub there : IsThere first journal e.under.now
+  pub ran : e.under.ran ≡ e.under.now
+
+-- the program of each entry and of each flight, the newest program, and the rules
+pub record FitsPrograms (s : Kept) : Type 0 where
+  pub rows : EachAfter ProgramsOn [] s.journal
+  pub newest : s.newest ≡ newest_now s.setting.program s.journal
+  pub current : IsInUse s.setting.program s.journal s.newest
+  pub rules : s.rules ≡ rules_now s.began s.journal
+  pub past : All (WasUnder s.setting.program s.journal) (folded s)
+  pub entries : All (IsUnder s.setting.program s.journal) (unfolded s)
+  pub flights : All (λ (f : Flight). IsInUse s.setting.program s.journal f.program) s.flights
 
 -- ---- all of it; e. the records of entries that aren't folded are what runs gave
 
@@ -375,3 +432,4 @@ pub record Fits (s : Kept) : Type 0 where
   pub flights : FitsFlights s.journal s.flights
   pub orders : EachAfter OrdersOn [] s.journal
   pub horizon : FitsHorizon s
+  pub programs : FitsPrograms s

@@ -6,6 +6,8 @@ use Rattle.lang_core.specs.declared.ids.Origin.TheVariants.{Outside, Call}
 use Rattle.lang_core.specs.declared.request.Request.{Request}
 use Rattle.lang_core.specs.declared.trace.CallMade.{CallMade}
 use Rattle.lang_core.specs.declared.trace.Trace.{Trace}
+use Rattle.lang_programs.specs.Settings.{with_program}
+use Rattle.lang_programs.specs.Under.{under_of}
 use Rattle.handler_run.specs.Handlers.{run_of}
 use Rattle.handler_run.specs.declared.state.Ran.{Ran}
 use Rattle.handler_run.specs.declared.state.Ran.TheVariants.{Done, Wants}
@@ -31,9 +33,10 @@ use Rattle.service_events.specs.Calls.{noted, named, deleted, all_deleted}
 use Rattle.service_events.specs.declared.answers.Arrived.{Arrived}
 use Rattle.service_events.specs.declared.answers.Arrived.TheVariants.{Done as Committed, Call as Sends}
 
--- its run on the rows at the end of the log, with the answers that its calls consume now
+-- its run under its program on the rows at the end of the log, with the answers that its calls consume now
 abbrev pub flight_run : Kept → Flight → Ran
-flight_run s f = run_of s.setting f.request f.inputs (map (answers s) f.numbers) (rows_after (base s) (unfolded s))
+flight_run s f =
+    run_of (with_program f.program.program s.setting) f.request f.inputs (map (answers s) f.numbers) (rows_after (base s) (unfolded s))
 
 -- ---- the commit
 
@@ -56,7 +59,8 @@ surplus_rows s f t = all_deleted s.registers (drop (length t.calls) f.numbers) (
 abbrev pub before_answer : Kept → Flight → Trace → List Row
 before_answer s f t =
     surplus_rows s f t
-    ++ (Asked (record { id = next_id s; origin = f.origin; request = f.request; inputs = f.inputs }) ∷ took_rows f.origin f.request)
+    ++ (Asked (record { id = next_id s; origin = f.origin; request = f.request; inputs = f.inputs; program = f.program.number })
+    ∷ took_rows f.origin f.request)
 
 abbrev pub live_answer : Kept → Flight → Trace → Row
 live_answer s f t =
@@ -79,6 +83,7 @@ committed_entry s f t =
       wanted = true;
       struck = false;
       inputs = f.inputs;
+      under = under_of f.program;
       made = Some (record { alive = true; version = live_version f.origin; request = f.request; trace = t });
       slots = take (length t.calls) f.numbers;
       answer_version = 1;

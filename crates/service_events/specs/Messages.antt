@@ -6,6 +6,8 @@ use Rattle.lang_core.specs.declared.ids.Origin.{Origin}
 use Rattle.lang_core.specs.declared.ids.Origin.TheVariants.{Call}
 use Rattle.lang_core.specs.declared.inputs.Inputs.{Inputs}
 use Rattle.lang_core.specs.declared.request.Request.{Request}
+use Rattle.lang_programs.specs.Numbered.{Numbered}
+use Rattle.lang_programs.specs.Under.{under_of}
 use Rattle.request_log.specs.Entries.{find_call, has_origin, with_entry}
 use Rattle.request_log.specs.declared.entry.Entry.{Entry}
 use Rattle.create_placement.specs.Placement.{place_between}
@@ -33,7 +35,7 @@ use Rattle.call_registers.specs.declared.register.Hold.{Hold}
 use Rattle.call_registers.specs.declared.register.Hold.TheVariants.{Rule, Unknown as Unheard, TooOld as PastHorizon}
 use Rattle.call_registers.specs.declared.register.Register.{Register}
 use Rattle.call_registers.specs.declared.reply.Reply.{Reply}
-use Rattle.service_events.specs.State.{Kept, After, after, folded, me, next_id, or_else, where_needed, is_crowded, is_heavy, is_in_flight}
+use Rattle.service_events.specs.State.{Kept, After, after, folded, me, next_id, or_else, program_for, where_needed, is_crowded, is_heavy, is_in_flight}
 use Rattle.service_events.specs.Calls.{noted}
 use Rattle.service_events.specs.Questions.{version_question, answer_question, is_denied, rule_of}
 use Rattle.service_events.specs.declared.answers.Heard.{Heard}
@@ -76,7 +78,7 @@ known_request s set = option_map (λ (e : Entry). e.request) (find_call (origin_
 
 -- what the service's rules decide of it
 abbrev pub take_decision : Kept → SetMessage → Decision
-take_decision s set = decision s.rules (version_question set.caller set.who (known_request s set) set.desired)
+take_decision s set = decision s.rules.rules (version_question set.caller set.who (known_request s set) set.desired)
 
 abbrev pub take_rule : Kept → SetMessage → ℕ
 take_rule s set = rule_of (take_decision s set)
@@ -111,6 +113,20 @@ acked_again s set =
     noted (acked_row set ∷ [])
     (record s { replies = at_reply_of (find_call (origin_of set) s.entries) (made_due (length s.journal)) s.replies })
 
+-- the number of the entry of the caller's call, where one is named and known
+abbrev pub neighbour : Kept → List ℕ → Option ℕ → Option ℕ
+neighbour s caller None = None
+neighbour s caller (Some number) = option_map (λ (e : Entry). e.id) (find (has_origin caller number) s.entries)
+
+-- behind the folded entries, whichever are named
+abbrev pub created_place : Kept → SetMessage → ℕ
+created_place s set =
+    max s.horizon (place_between (neighbour s set.caller set.before) (neighbour s set.caller set.after) s.entries)
+
+-- the program under which it runs
+abbrev pub created_under : Kept → SetMessage → Numbered
+created_under s set = program_for s (created_place s set)
+
 -- an entry that never ran
 abbrev pub created_entry : Kept → SetMessage → Request → Inputs → Entry
 created_entry s set q i =
@@ -122,11 +138,23 @@ created_entry s set q i =
       wanted = true;
       struck = false;
       inputs = i;
+      under = under_of (created_under s set);
       made = None;
       slots = [];
       answer_version = 0;
       runs = 0;
     }
+
+-- the row that asks of it
+abbrev pub created_row : Kept → SetMessage → Request → Inputs → Row
+created_row s set q i =
+    Asked (record {
+      id = next_id s;
+      origin = origin_of set;
+      request = q;
+      inputs = i;
+      program = (created_under s set).number;
+    })
 
 -- its reply, which is due; its last mark is the acknowledgement, which stands two rows behind
 abbrev pub created_reply : Kept → SetMessage → Reply
@@ -144,16 +172,6 @@ created_reply s set =
       since = length s.journal + 2;
     }
 
--- the number of the entry of the caller's call, where one is named and known
-abbrev pub neighbour : Kept → List ℕ → Option ℕ → Option ℕ
-neighbour s caller None = None
-neighbour s caller (Some number) = option_map (λ (e : Entry). e.id) (find (has_origin caller number) s.entries)
-
--- behind the folded entries, whichever are named
-abbrev pub created_place : Kept → SetMessage → ℕ
-created_place s set =
-    max s.horizon (place_between (neighbour s set.caller set.before) (neighbour s set.caller set.after) s.entries)
-
 -- an entry with this version of its call
 abbrev pub at_version : SetMessage → Entry → Entry
 at_version set e =
@@ -168,7 +186,7 @@ taken_by s set i (Some e) desired =
       replies = at_entry e.id (λ p. made_due (length s.journal + 1) (with_taken set.version (is_some set.desired) p)) s.replies;
     })
 taken_by s set i None (Some q) =
-    noted (took_row s set ∷ (Asked (record { id = next_id s; origin = origin_of set; request = q; inputs = i }) ∷ (acked_row set ∷ [])))
+    noted (took_row s set ∷ (created_row s set q i ∷ (acked_row set ∷ [])))
     (record s {
       entries = insert s.entries (created_place s set) (created_entry s set q i);
       replies = s.replies ++ created_reply s set ∷ [];
@@ -211,7 +229,7 @@ confirmed_row t = Confirmed (record { number = t.number; answer_version = t.answ
 
 -- what the service's rules decide of another answer to the call of this register
 abbrev pub hear_decision : Kept → TokenMessage → Register → Decision
-hear_decision s t r = decision s.rules (answer_question r.dest t.who r.desired)
+hear_decision s t r = decision s.rules.rules (answer_question r.dest t.who r.desired)
 
 -- with the number of the rule that allowed it
 abbrev pub noted_row : ℕ → TokenMessage → Row

@@ -1,5 +1,5 @@
 -- Orders of operators.
-use Rattle.std.specs.Prelude.{ℕ, ◌+◌, Bool, true, false, ◌&&◌, not, List, [], ◌∷◌, ◌++◌, Option, Some, None, Result, Ok, Err, if◌then◌else◌, drop, find, insert, length, map, max, option_map, take}
+use Rattle.std.specs.Prelude.{ℕ, ◌+◌, Bool, true, false, ◌&&◌, not, List, [], ◌∷◌, ◌++◌, Option, Some, None, Result, Ok, Err, if◌then◌else◌, drop, find, insert, length, map, max, nat_eq, nat_le, option_map, take}
 use Rattle.std.specs.List.{list_all, position_or_len}
 use Rattle.std.specs.Option.{option_map_or}
 use Rattle.lang_core.specs.declared.cells.Cell.{Cell}
@@ -7,7 +7,9 @@ use Rattle.lang_core.specs.declared.ids.Origin.{Origin}
 use Rattle.lang_core.specs.declared.ids.Origin.TheVariants.{Outside, Call}
 use Rattle.lang_core.specs.declared.inputs.Inputs.{Inputs}
 use Rattle.lang_core.specs.declared.request.Request.{Request}
-use Rattle.request_log.specs.Entries.{has_id, changed, mark, replace, with_call}
+use Rattle.lang_tree.specs.declared.program.Route.{Route}
+use Rattle.lang_programs.specs.Numbered.{Numbered}
+use Rattle.request_log.specs.Entries.{has_id, changed, corrected, mark, replace, with_call}
 use Rattle.request_log.specs.Folded.{bare}
 use Rattle.request_log.specs.declared.entry.Entry.{Entry}
 use Rattle.local_repair.specs.Current.{after_entry, rows_after}
@@ -17,11 +19,12 @@ use Rattle.repair_messages.specs.declared.posts.PostName.{PostName}
 use Rattle.repair_messages.specs.declared.posts.PostName.TheVariants.{Call as OfCall, Reply as OfReply, Fetch as OfFetch}
 use Rattle.authorise_rules.specs.Deciding.{decision}
 use Rattle.authorise_rules.specs.declared.asked.Decision.{Decision}
+use Rattle.journal_rows.specs.Programs.{is_number, program_count}
 use Rattle.journal_rows.specs.Words.{ordered}
 use Rattle.journal_rows.specs.declared.orders.About.{About}
-use Rattle.journal_rows.specs.declared.orders.About.TheVariants.{Request as AboutRequest, Post as AboutPost}
+use Rattle.journal_rows.specs.declared.orders.About.TheVariants.{Request as AboutRequest, Post as AboutPost, Program as AboutProgram, Rules as AboutRules}
 use Rattle.journal_rows.specs.declared.orders.Command.{Command}
-use Rattle.journal_rows.specs.declared.orders.Command.TheVariants.{Cancel, Restore, Replace, Create, Retry, Fold}
+use Rattle.journal_rows.specs.declared.orders.Command.TheVariants.{Cancel, Restore, Replace, Create, Retry, Fold, Deploy, Correct, Rules}
 use Rattle.journal_rows.specs.declared.orders.OrderedRow.{OrderedRow}
 use Rattle.journal_rows.specs.declared.row.Row.{Row}
 use Rattle.journal_rows.specs.declared.row.Row.TheVariants.{Asked, Ordered as OrderedAs}
@@ -30,12 +33,13 @@ use Rattle.call_registers.specs.Replies.{reply, at_entry, is_reply_due, released
 use Rattle.call_registers.specs.declared.register.Hold.{Hold}
 use Rattle.call_registers.specs.declared.register.Register.{Register}
 use Rattle.call_registers.specs.declared.reply.Reply.{Reply}
-use Rattle.service_events.specs.State.{Kept, After, after, answers, base, is_crowded, is_heavy, is_past, next_id, or_else, unfolded, where_needed}
+use Rattle.flights.specs.Corrections.{corrected_flight}
+use Rattle.service_events.specs.State.{Kept, After, after, answers, base, folded, is_crowded, is_heavy, is_past, next_id, or_else, program_for, unfolded, where_needed}
 use Rattle.service_events.specs.Calls.{noted}
 use Rattle.service_events.specs.Questions.{command_question, is_denied, rule_of}
 use Rattle.service_events.specs.declared.answers.Ordered.{Ordered}
 use Rattle.service_events.specs.declared.refusals.OrderRefused.{OrderRefused}
-use Rattle.service_events.specs.declared.refusals.OrderRefused.TheVariants.{NoSuchRequest, Denied, Full, NotHeld, NotOutside, TooOld, NotQuiet}
+use Rattle.service_events.specs.declared.refusals.OrderRefused.TheVariants.{NoSuchRequest, Denied, Full, NotHeld, NotOutside, TooOld, NotQuiet, NoSuchProgram}
 
 abbrev pub entry_of : ℕ → Kept → Option Entry
 entry_of id s = find (has_id id) s.entries
@@ -68,6 +72,10 @@ hold_on s (OfCall number) = option_map_or (λ (r : Register). r.held) (register 
 hold_on s (OfReply id) = option_map_or (λ (p : Reply). p.held) (reply id s.replies) None
 hold_on s (OfFetch number) = None
 
+-- a correction is of a program that there is, also where nothing runs under it any more
+abbrev pub unless_numbered : ℕ → Kept → Option OrderRefused
+unless_numbered k s = where_needed (not (is_number k s.journal)) (Some (NoSuchProgram k))
+
 -- why an order can't be about what it names
 abbrev pub misnamed : Kept → Command → Option OrderRefused
 misnamed s (Cancel id) = unless_present id s (entry_of id s)
@@ -76,6 +84,9 @@ misnamed s (Replace id method path body) = unless_replaced id s (entry_of id s)
 misnamed s (Create before after q) = None
 misnamed s (Retry name) = unless_held (hold_on s name)
 misnamed s (Fold id) = unless_present id s (entry_of id s)
+misnamed s (Deploy p) = None
+misnamed s (Correct k p) = unless_numbered k s
+misnamed s (Rules g) = None
 
 -- the entries that a fold up to this one folds: all that aren't folded yet, up to it
 abbrev pub to_fold : ℕ → Kept → List Entry
@@ -107,9 +118,23 @@ abbrev pub makes_entry : Command → Bool
 makes_entry (Create before after q) = true
 makes_entry command = false
 
+abbrev pub brings_program : Command → Bool
+brings_program (Deploy p) = true
+brings_program (Correct k p) = true
+brings_program command = false
+
+-- how many programs there may be, where there are as many
+abbrev pub is_programmed : Kept → Option ℕ
+is_programmed s = where_needed (nat_le 10000 (program_count s.journal)) (Some 10000)
+
+-- how much there is of what the command makes one more of, where there is no place for one more
+abbrev pub lacks_place : Kept → Command → Option ℕ
+lacks_place s command =
+    if makes_entry command then is_crowded s else (if brings_program command then is_programmed s else None)
+
 -- how much there is, where there is too much: the weight counts first
 abbrev pub is_too_much : Kept → Command → Option ℕ
-is_too_much s command = or_else (is_heavy s) (if makes_entry command then is_crowded s else None)
+is_too_much s command = or_else (is_heavy s) (lacks_place s command)
 
 abbrev pub request_of : ℕ → Kept → Option Request
 request_of id s = option_map (λ (e : Entry). e.request) (entry_of id s)
@@ -128,6 +153,9 @@ subject s (Retry (OfCall number)) = request_retried number s
 subject s (Retry (OfReply id)) = request_of id s
 subject s (Retry (OfFetch number)) = None
 subject s (Fold id) = None
+subject s (Deploy p) = None
+subject s (Correct k p) = None
+subject s (Rules g) = None
 
 -- the request that a command puts there, where it finds this one
 abbrev pub request_put : Command → Option Request → Option Request
@@ -138,7 +166,7 @@ request_put command found = None
 -- what the service's rules decide of it
 abbrev pub order_decision : Kept → Command → List ℕ → Decision
 order_decision s command who =
-    decision s.rules (command_question command who (subject s command) (request_put command (subject s command)))
+    decision s.rules.rules (command_question command who (subject s command) (request_put command (subject s command)))
 
 abbrev pub order_rule : Kept → Command → List ℕ → ℕ
 order_rule s command who = rule_of (order_decision s command who)
@@ -154,6 +182,10 @@ refused s command who =
 
 -- ---- what an accepted order does
 
+-- the program that an order brings, with the next number
+abbrev pub brought : Kept → List Route → Numbered
+brought s p = record { number = program_count s.journal + 1; program = p }
+
 abbrev pub about : Kept → Command → About
 about s (Cancel id) = AboutRequest id
 about s (Restore id) = AboutRequest id
@@ -161,6 +193,9 @@ about s (Replace id method path body) = AboutRequest id
 about s (Create before after q) = AboutRequest (next_id s)
 about s (Retry name) = AboutPost name
 about s (Fold id) = AboutRequest id
+about s (Deploy p) = AboutProgram (brought s p).number
+about s (Correct k p) = AboutProgram (brought s p).number
+about s (Rules g) = AboutRules
 
 -- the request that the order found
 abbrev pub original : Kept → Command → Option Request
@@ -170,12 +205,24 @@ original s (Replace id method path body) = request_of id s
 original s (Create before after q) = None
 original s (Retry name) = None
 original s (Fold id) = None
+original s (Deploy p) = None
+original s (Correct k p) = None
+original s (Rules g) = None
 
 abbrev pub repaired : Kept → Command → Option Request
 repaired s command = request_put command (original s command)
 
+-- where an order puts a new entry: behind the folded ones, whichever it names
+abbrev pub place_made : Kept → Option ℕ → Option ℕ → ℕ
+place_made s before after = max s.horizon (place_between before after s.entries)
+
+-- the program under which it runs
+abbrev pub made_under : Kept → Option ℕ → Option ℕ → Numbered
+made_under s before after = program_for s (place_made s before after)
+
 abbrev pub asked_rows : Kept → Command → Inputs → List Row
-asked_rows s (Create before after q) i = Asked (record { id = next_id s; origin = Outside; request = q; inputs = i }) ∷ []
+asked_rows s (Create before after q) i =
+    Asked (record { id = next_id s; origin = Outside; request = q; inputs = i; program = (made_under s before after).number }) ∷ []
 asked_rows s command i = []
 
 abbrev pub order_rows : Kept → Command → List ℕ → List ℕ → Inputs → List Row
@@ -204,9 +251,17 @@ folded_on n s =
       base = rows_after (base s) (take n (unfolded s));
     }
 
--- where an order puts a new entry: behind the folded ones, whichever it names
-abbrev pub place_made : Kept → Option ℕ → Option ℕ → ℕ
-place_made s before after = max s.horizon (place_between before after s.entries)
+abbrev pub newest_by : ℕ → Numbered → Numbered → Numbered
+newest_by k program newest = if nat_eq newest.number k then program else newest
+
+-- this program stands in the place of the one of this number: of each unfolded entry and of each flight that has it, and of the newest
+abbrev pub corrected_on : ℕ → Numbered → Kept → Kept
+corrected_on k program s =
+    record s {
+      newest = newest_by k program s.newest;
+      entries = folded s ++ map (corrected k program) (unfolded s);
+      flights = map (corrected_flight k program) s.flights;
+    }
 
 -- what it makes of the service, but its rows
 abbrev pub carried_out : Kept → Command → List ℕ → Inputs → Kept
@@ -214,9 +269,12 @@ carried_out s (Cancel id) who i = record s { entries = changed id (mark true) s.
 carried_out s (Restore id) who i = record s { entries = changed id (mark false) s.entries }
 carried_out s (Replace id method path body) who i = record s { entries = changed id (replace method path body) s.entries }
 carried_out s (Create before after q) who i =
-    record s { entries = insert s.entries (place_made s before after) (created (next_id s) q i) }
+    record s { entries = insert s.entries (place_made s before after) (created (next_id s) q i (made_under s before after)) }
 carried_out s (Retry name) who i = released_post who name s
 carried_out s (Fold id) who i = folded_on (length (to_fold id s)) s
+carried_out s (Deploy p) who i = record s { newest = brought s p }
+carried_out s (Correct k p) who i = corrected_on k (brought s p) s
+carried_out s (Rules g) who i = record s { rules = g }
 
 abbrev pub order_by : Kept → Command → List ℕ → List ℕ → Inputs → Option OrderRefused → After (Result Ordered OrderRefused)
 order_by s command token who i (Some why) = after s (Err why)

@@ -4,12 +4,12 @@ use Rattle.std.specs.Prelude.{ℕ, Bool, true, false, List, Option, Some, None, 
 use Rattle.lang_core.specs.declared.request.Request.{Request}
 use Rattle.repair_messages.specs.Kinds.{replaces_if}
 use Rattle.repair_messages.specs.declared.kinds.Kind.{Kind}
-use Rattle.repair_messages.specs.declared.kinds.Kind.TheVariants.{Create, Replace, Delete, ReplaceResponse, Retry, Fold}
+use Rattle.repair_messages.specs.declared.kinds.Kind.TheVariants.{Create, Replace, Delete, ReplaceResponse, Retry, Fold, Deploy, Correct, Rules}
 use Rattle.authorise_rules.specs.Deciding.{Question}
 use Rattle.authorise_rules.specs.declared.asked.Decision.{Decision}
 use Rattle.authorise_rules.specs.declared.asked.Decision.TheVariants.{Allow, Deny}
 use Rattle.journal_rows.specs.declared.orders.Command.{Command}
-use Rattle.journal_rows.specs.declared.orders.Command.TheVariants.{Cancel, Restore, Replace as ReplaceBy, Create as CreateBy, Retry as RetryPost, Fold as FoldUpTo}
+use Rattle.journal_rows.specs.declared.orders.Command.TheVariants.{Cancel, Restore, Replace as ReplaceBy, Create as CreateBy, Retry as RetryPost, Fold as FoldUpTo, Deploy as DeployProgram, Correct as CorrectProgram, Rules as GiveRules}
 
 -- ---- questions
 
@@ -41,6 +41,9 @@ command_kind (ReplaceBy id method path body) = Replace
 command_kind (CreateBy before after q) = Create
 command_kind (RetryPost name) = Retry
 command_kind (FoldUpTo id) = Fold
+command_kind (DeployProgram p) = Deploy
+command_kind (CorrectProgram k p) = Correct
+command_kind (GiveRules g) = Rules
 
 -- of an operator's command, by the request that it finds and the one that it puts there
 abbrev pub command_question : Command → List ℕ → Option Request → Option Request → Question

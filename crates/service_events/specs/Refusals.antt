@@ -3,7 +3,7 @@ use Rattle.std.specs.Prelude.{ℕ, Option, Some, None, Result, Ok, Err}
 use Rattle.lang_base.specs.declared.memory.NoMemory.{NoMemory as LacksMemory}
 use Rattle.repair_messages.specs.declared.refusals.Refusal.{Refusal}
 use Rattle.repair_messages.specs.declared.refusals.RefusalWord.{RefusalWord}
-use Rattle.repair_messages.specs.declared.refusals.RefusalWord.TheVariants.{NoMemory, Full, NotYet, Gone, NoFlight, Denied, Unknown, Foreign, NoSuchRequest, NotHeld, NotOutside, TooOld, NotQuiet}
+use Rattle.repair_messages.specs.declared.refusals.RefusalWord.TheVariants.{NoMemory, Full, NotYet, Gone, NoFlight, Denied, Unknown, Foreign, NoSuchRequest, NotHeld, NotOutside, TooOld, NotQuiet, NoSuchProgram}
 use Rattle.service_events.specs.declared.answers.PostReply.{PostReply}
 use Rattle.service_events.specs.declared.answers.PostReply.TheVariants as back
 use Rattle.service_events.specs.declared.answers.PostWord.{PostWord}
@@ -68,6 +68,7 @@ order_refusal order.NotHeld = refusal NotHeld 0
 order_refusal (order.NotOutside id) = refusal NotOutside id
 order_refusal (order.TooOld id) = refusal TooOld id
 order_refusal (order.NotQuiet id) = refusal NotQuiet id
+order_refusal (order.NoSuchProgram k) = refusal NoSuchProgram k
 
 abbrev pub memory_refusal : LacksMemory → Refusal
 memory_refusal why = refusal NoMemory 0

@@ -11,6 +11,7 @@ use Rattle.handler_run.specs.declared.state.Ran.TheVariants.{Done, Wants}
 use Rattle.request_log.specs.Entries.{is_alive}
 use Rattle.request_log.specs.declared.entry.Entry.{Entry}
 use Rattle.request_log.specs.declared.entry.Made.{Made}
+use Rattle.local_repair.specs.Programs.{setting_of}
 use Rattle.local_repair.specs.Steps.{answer_at, calls_of_made}
 use Rattle.local_repair.specs.declared.stepped.Stepped.{Stepped}
 use Rattle.local_repair.specs.declared.stepped.Stepped.TheVariants.{Idle}
@@ -87,11 +88,11 @@ abbrev pub RunsThrough : (List Response → Ran) → (ℕ → CallMade → Respo
 RunsThrough run answer given [] t = run given ≡ Done t
 RunsThrough run answer given (r ∷ rs) t = TakesAnswer (run given) r answer (RunsThrough run answer (given ++ r ∷ []) rs t)
 
--- one that survives runs from its start, and a call that it makes as before gets the answer that its old number consumes
+-- one that survives runs under its program from its start, and a call that it makes as before gets the answer that its old number consumes
 abbrev pub RunsAgain : Bool → Kept → List Cell → Entry → Trace → Type 0
 RunsAgain true s rows e t =
     (given : List Response)
-    × RunsThrough (λ xs. run_of s.setting e.request e.inputs xs rows) (answer_at (answers s) (calls_of_made e.made) e.slots) [] given t
+    × RunsThrough (λ xs. run_of (setting_of s.setting e) e.request e.inputs xs rows) (answer_at (answers s) (calls_of_made e.made) e.slots) [] given t
 RunsAgain false s rows e t = t ≡ dead_trace
 
 -- the record of the entry on these rows

@@ -1,18 +1,18 @@
 -- What a service keeps, and what an event leaves of it.
-use Rattle.std.specs.Prelude.{ℕ, ◌≡◌, ◌+◌, ◌≤◌, Bool, List, [], Option, Some, None, if◌then◌else◌, drop, is_some, find, nat_le, length, refl, take}
+use Rattle.std.specs.Prelude.{ℕ, ◌≡◌, ◌+◌, ◌≤◌, Bool, List, [], Option, Some, None, if◌then◌else◌, drop, is_some, find, nat_le, length, refl, slice_get, take}
 use Rattle.std.specs.Coded.{Coded, coded_ℕ, code_by, coded×, coded_list}
 use Rattle.lang_core.specs.contracts.cells.Cell as cell
 use Rattle.lang_core.specs.contracts.setting.Setting as setting
 use Rattle.lang_core.specs.declared.cells.Cell.{Cell}
 use Rattle.lang_core.specs.declared.ids.Origin.{Origin}
 use Rattle.lang_core.specs.declared.setting.Setting.{Setting}
+use Rattle.lang_programs.specs.Numbered.{Numbered, numbered_code}
 use Rattle.request_log.specs.Entries.{has_id}
 use Rattle.request_log.specs.contracts.entry.Entry as entry
 use Rattle.request_log.specs.declared.entry.Entry.{Entry}
 use Rattle.local_repair.specs.Current.{Consumed}
 use Rattle.local_repair.specs.Steps.{answer_or_tentative}
-use Rattle.authorise_rules.specs.contracts.rule.Rule as rule
-use Rattle.authorise_rules.specs.declared.rule.Rule.{Rule}
+use Rattle.authorise_rules.specs.Given.{GivenRules, given_code}
 use Rattle.journal_rows.specs.Weights.{journal_weight}
 use Rattle.journal_rows.specs.contracts.row.Row as row
 use Rattle.journal_rows.specs.declared.row.Row.{Row}
@@ -26,11 +26,14 @@ pub use Rattle.flights.specs.Numbers.{has_flight, without_flight, put_flight, wi
 use Rattle.flights.specs.Numbers.{flight_in, is_flying}
 use Rattle.flights.specs.declared.flight.Flight.{Flight}
 
--- what it is set to do, the rules by which it allows repairs, its entries in logged order, how many of the first of them are folded and the
--- rows that these left, its flights in the order of their numbers, its journal, its registers and its replies
+-- what it is set to do, its first program among it; the rules with which it began, and those by which it allows repairs now; the program under
+-- which what comes now runs; its entries in logged order, how many of the first of them are folded and the rows that these left; its flights in
+-- the order of their numbers, its journal, its registers and its replies
 pub record Kept : Type 0 where
   pub setting : Setting
-  pub rules : List Rule
+  pub began : GivenRules
+  pub rules : GivenRules
+  pub newest : Numbered
   pub entries : List Entry
   pub horizon : ℕ
   pub base : List Cell
@@ -42,32 +45,48 @@ pub record Kept : Type 0 where
 -- by which a proof tells two of them apart
 abbrev pub kept_code : Coded Kept
 kept_code =
-    code_by (Setting × (List Rule × (List Entry × (ℕ × (List Cell × (List Flight × (List Row × (List Register × List Reply))))))))
+    code_by (Setting × (GivenRules × (GivenRules × (Numbered × (List Entry × (ℕ × (List Cell × (List Flight × (List Row × (List Register × List Reply))))))))))
     (coded× setting.the_row.coded
-    (coded× (coded_list rule.the_row.coded)
+    (coded× given_code
+    (coded× given_code
+    (coded× numbered_code
     (coded× (coded_list entry.the_row.coded)
     (coded× coded_ℕ
     (coded× (coded_list cell.the_row.coded)
     (coded× (coded_list flight.the_row.coded)
-    (coded× (coded_list row.the_row.coded) (coded× (coded_list register.the_row.coded) (coded_list reply.the_row.coded)))))))))
-    (λ s. (s.setting, (s.rules, (s.entries, (s.horizon, (s.base, (s.flights, (s.journal, (s.registers, s.replies)))))))))
+    (coded× (coded_list row.the_row.coded) (coded× (coded_list register.the_row.coded) (coded_list reply.the_row.coded)))))))))))
+    (λ s. (s.setting, (s.began, (s.rules, (s.newest, (s.entries, (s.horizon, (s.base, (s.flights, (s.journal, (s.registers, s.replies)))))))))))
     (λ p. record {
       setting = p.0;
-      rules = p.1.0;
-      entries = p.1.1.0;
-      horizon = p.1.1.1.0;
-      base = p.1.1.1.1.0;
-      flights = p.1.1.1.1.1.0;
-      journal = p.1.1.1.1.1.1.0;
-      registers = p.1.1.1.1.1.1.1.0;
-      replies = p.1.1.1.1.1.1.1.1;
+      began = p.1.0;
+      rules = p.1.1.0;
+      newest = p.1.1.1.0;
+      entries = p.1.1.1.1.0;
+      horizon = p.1.1.1.1.1.0;
+      base = p.1.1.1.1.1.1.0;
+      flights = p.1.1.1.1.1.1.1.0;
+      journal = p.1.1.1.1.1.1.1.1.0;
+      registers = p.1.1.1.1.1.1.1.1.1.0;
+      replies = p.1.1.1.1.1.1.1.1.1.1;
     })
     (λ _. refl)
 
 -- what a service keeps that has answered nothing yet
-abbrev pub fresh : Setting → List Rule → Kept
+abbrev pub fresh : Setting → GivenRules → Kept
 fresh setting rules =
-    record { setting = setting; rules = rules; entries = []; horizon = 0; base = []; flights = []; journal = []; registers = []; replies = [] }
+    record {
+      setting = setting;
+      began = rules;
+      rules = rules;
+      newest = record { number = 1; program = setting.program };
+      entries = [];
+      horizon = 0;
+      base = [];
+      flights = [];
+      journal = [];
+      registers = [];
+      replies = [];
+    }
 
 -- what an event leaves, and what it answers
 pub record After (A : Type 0) : Type 0 where
@@ -99,6 +118,18 @@ pub record KeepsFolded (s s' : Kept) : Type 0 where
 -- the entry of this number is folded
 abbrev pub is_past : ℕ → Kept → Bool
 is_past id s = is_some (find (has_id id) (folded s))
+
+-- ---- programs
+
+abbrev pub program_or : Numbered → Option Entry → Numbered
+program_or newest None = newest
+program_or newest (Some e) = e.under.now
+
+-- the program of an entry that is made at this place: that of the entry which it stands before, and the newest at the end
+abbrev pub program_for : Kept → ℕ → Numbered
+program_for s place = program_or s.newest (slice_get s.entries place)
+
+-- ---- what calls consume
 
 -- what each number consumes
 abbrev pub answers : Kept → Consumed

@@ -12,6 +12,7 @@ use Rattle.request_log.specs.Entries.{is_alive, with_entry}
 use Rattle.request_log.specs.declared.entry.Entry.{Entry}
 use Rattle.request_log.specs.declared.entry.Made.{Made}
 use Rattle.local_repair.specs.Current.{Consumed, after_entry}
+use Rattle.local_repair.specs.Programs.{setting_of}
 use Rattle.local_repair.specs.Steps.{calls_of_made, answer_at, is_new_answer, remade, raised}
 use Rattle.local_repair.specs.Tests.{is_current}
 use Rattle.local_repair.specs.declared.stepped.Stepped.{Stepped}
@@ -30,11 +31,11 @@ abbrev pub ended_or : Ran → (ℕ → CallMade → Trace) → Trace
 ended_or (Done t) more = t
 ended_or (Wants slot calls call) more = more slot call
 
--- a run in at most so many turns: each call that it wants gets the answer of its old slot, where it is the old call, else the tentative one
+-- a run under the entry's program in at most so many turns: each call that it wants gets the answer of its old slot, where it is the old call, else the tentative one
 abbrev pub rerun : ℕ → Kept → List Cell → Entry → List Response → Trace
 rerun zero s rows e given = dead_trace
 rerun (suc turns) s rows e given =
-    ended_or (run_of s.setting e.request e.inputs given rows)
+    ended_or (run_of (setting_of s.setting e) e.request e.inputs given rows)
     (λ slot call. rerun turns s rows e (given ++ answer_at (answers s) (calls_of_made e.made) e.slots slot call ∷ []))
 
 -- a request makes at most 16 calls

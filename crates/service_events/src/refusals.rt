@@ -94,6 +94,8 @@ pub enum OrderRefused {
     /// The request of this number would be folded, and isn't quiet: it is stale, its reply is due, or one of its calls isn't
     /// acknowledged or owes a fetch.
     NotQuiet(u64),
+    /// There is no program of this number.
+    NoSuchProgram(u64),
 }
 
 impl From<NoMemory> for ArriveRefused {
@@ -318,6 +320,7 @@ impl OrderRefused {
             OrderRefused::NotOutside(id) => refusal(RefusalWord::NotOutside, id),
             OrderRefused::TooOld(id) => refusal(RefusalWord::TooOld, id),
             OrderRefused::NotQuiet(id) => refusal(RefusalWord::NotQuiet, id),
+            OrderRefused::NoSuchProgram(number) => refusal(RefusalWord::NoSuchProgram, number),
         }
     }
 }
