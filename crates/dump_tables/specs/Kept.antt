@@ -1,13 +1,15 @@
 -- What each dump keeps: nothing in it is told twice, and each call is told whole.
-use Rattle.std.specs.Prelude.{◌≡◌, ℕ, List, [], ◌∷◌, ◌++◌, length, map}
+use Rattle.std.specs.Prelude.{◌≡◌, ℕ, List, [], ◌∷◌, ◌++◌, Some, length, map}
 use Rattle.std.specs.List.{AllByRecursion, flat_map}
 use Rattle.lang_core.specs.Places.{IsOrdered}
 use Rattle.lang_core.specs.Rows.{cell_place}
 use Rattle.lang_core.specs.declared.ids.Origin.{Origin}
 use Rattle.lang_core.specs.declared.ids.Origin.TheVariants.{Outside, Call}
 use Rattle.lang_core.specs.declared.trace.CallMade.{CallMade}
+use Rattle.dump_tables.specs.Programs.{numbered}
 use Rattle.dump_tables.specs.declared.dump.DumpEntry.{DumpEntry}
 use Rattle.dump_tables.specs.declared.dump.DumpService.{DumpService}
+use Rattle.dump_tables.specs.declared.programs.DumpPrograms.{DumpPrograms}
 
 -- no two of these are the same
 abbrev pub AreApart : {X : Type 0} → List X → Type 0
@@ -37,14 +39,21 @@ pub record IsWhole (me : List ℕ) (e : DumpEntry) : Type 0 where
   pub answered : length e.answers ≡ length e.numbers
   pub sent : AllByRecursion (IsSent me e.request.chain) e.calls
 
--- in a service no number of an entry stands twice, no call that an entry comes from, no number of a call, and no table and key of a row
+-- an entry runs under the program of its number
+abbrev pub IsUnder : DumpPrograms → DumpEntry → Type 0
+IsUnder programs e = numbered e.under programs ≡ Some e.program
+
+-- in a service no number of an entry stands twice, no call that an entry comes from, no number of a call, and no table and key of a row; its first program is
+-- its setting's, and each entry runs under that of its number
 pub record IsKept (s : DumpService) : Type 0 where
   pub weight : s.setting.weight ≡ 0
+  pub first : s.programs.first ≡ s.setting.program
   pub ids : AreApart (map (λ e. e.id) s.entries)
   pub callers : AreApart (calls_behind s.entries)
   pub numbers : AreApart (numbers_of s.entries)
   pub rows : IsOrdered cell_place s.rows
   pub entries : AllByRecursion (IsWhole s.setting.me) s.entries
+  pub under : AllByRecursion (IsUnder s.programs) s.entries
 
 abbrev pub service_name : DumpService → List ℕ
 service_name s = s.setting.me

@@ -1,3 +1,4 @@
 pub mod Found
 pub mod Indexed
 pub mod Kept
+pub mod Programs

@@ -3,8 +3,11 @@ ghost use Rattle.std.specs.Prelude.{◌≡◌, ◌&&◌, not};
 ghost use Rattle.dump_tables.specs.Kept.{AreKept};
 
 use crate::entries::DumpEntries;
+use crate::programs::DumpPrograms;
 use crate::services::DumpServices;
-use lang_core::{Answers, Calls, Cells, Inputs, Origin, Request, Response, Seq, Setting};
+use lang_core::{
+    Answers, Calls, Cells, Inputs, Origin, Program, Request, Response, Seq, Setting, Shared,
+};
 
 /// The numbers of an entry's calls, in the order of the calls.
 pub type Numbers = Seq<u64>;
@@ -22,6 +25,10 @@ pub struct DumpEntry {
     pub struck: bool,
     pub inputs: Inputs,
     pub request: Request,
+    /// The number of its program at the service, from 1.
+    pub under: u64,
+    /// The program of that number, which it runs under.
+    pub program: Shared<Program>,
     /// The names of its calls, by their numbers at the service, from 1.
     pub numbers: Numbers,
     /// Its calls, each for the service itself and with the service behind the entry's own chain.
@@ -42,6 +49,8 @@ impl Drop for DumpEntry {
             struck: _,
             inputs: _,
             request: _,
+            under: _,
+            program: _,
             numbers: _,
             calls: _,
             answers: _,
@@ -59,17 +68,19 @@ impl DumpEntry {
     }
 }
 
-/// A service: what it is set to do, its entries, and its rows after the last of them.
+/// A service: what it is set to do at first, the programs that it had, its entries, and its rows after the last of them.
 #[derive(Drop)]
 pub struct DumpService {
     /// Its weight is 0, as a dump doesn't tell it.
     pub setting: Setting,
+    /// Its setting's, and those that came after.
+    pub programs: DumpPrograms,
     pub entries: DumpEntries,
     pub rows: Cells,
 }
 
 /// What a dump says. No name of a service stands in it twice, and in a service no number of an entry, no call that an entry
-/// comes from, no number of a call, and no table and key of a row.
+/// comes from, no number of a call, and no table and key of a row. Each entry's program is the service's of its number.
 pub struct Dump {
     pub services: DumpServices,
     ghost kept: { ∥ AreKept services ∥₁ },
