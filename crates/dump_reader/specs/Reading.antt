@@ -1,8 +1,9 @@
 -- Which dump a text is read as, or which refusal stands at which line.
-use Rattle.std.specs.Prelude.{◌≡◌, ℕ, ◌+◌, Bool, true, false, ◌||◌, not, List, [], ◌∷◌, ◌++◌, length, Option, Some, None, Result, Ok, Err, nat_eq, nat_lt, ◌==◌, if◌then◌else◌, refl}
+use Rattle.std.specs.Prelude.{◌≡◌, ℕ, ◌+◌, Bool, true, false, ◌||◌, not, List, [], ◌∷◌, ◌++◌, length, Option, Some, None, Result, Ok, Err, ◌&&◌, nat_eq, nat_lt, ◌==◌, if◌then◌else◌, refl}
 use Rattle.std.specs.List.{list_any, slice_split}
 use Rattle.lang_base.specs.Memory.{Unless, lacks}
 use Rattle.lang_base.specs.Texts.{same_text}
+use Rattle.lang_core.specs.HandedOn.{Route}
 use Rattle.lang_core.specs.Origins.{is_call}
 use Rattle.lang_core.specs.Places.{by_order, place_order, same_place}
 use Rattle.lang_core.specs.Rows.{cell_place}
@@ -12,6 +13,7 @@ use Rattle.lang_core.specs.declared.ids.Origin.TheVariants.{Outside, Call as Fro
 use Rattle.lang_core.specs.declared.request.Response.{Response}
 use Rattle.lang_core.specs.declared.trace.CallMade.{CallMade}
 use Rattle.dump_tables.specs.Indexed.{has_number}
+use Rattle.dump_tables.specs.Programs.{later_at, with_later}
 use Rattle.dump_tables.specs.declared.dump.Dump.{Dump}
 use Rattle.dump_tables.specs.declared.dump.DumpEntry.{DumpEntry}
 use Rattle.dump_tables.specs.declared.dump.DumpService.{DumpService}
@@ -19,7 +21,7 @@ use Rattle.dump_words.specs.Lines.{Read, line_at}
 use Rattle.dump_words.specs.declared.line.CallLine.{CallLine}
 use Rattle.dump_words.specs.declared.line.EntryLine.{EntryLine}
 use Rattle.dump_words.specs.declared.line.Line.{Line}
-use Rattle.dump_words.specs.declared.line.Line.TheVariants.{Service, Peers, Program, Entry, Call, Answer, Reply, Row, End}
+use Rattle.dump_words.specs.declared.line.Line.TheVariants.{Service, Peers, Program, Entry, Under, Call, Answer, Reply, Row, End}
 use Rattle.dump_words.specs.declared.line.LineFault.{LineFault}
 use Rattle.dump_words.specs.declared.line.LineFault.TheVariants as fault
 use Rattle.dump_reader.specs.Alone.{not_among}
@@ -100,15 +102,33 @@ abbrev pub headed : List ℕ → ℕ → Line → Next
 headed me n (Peers peers) = head_by me peers n (list_any (same_text me) peers) refl
 headed me n line = Err (refusal.Shape n)
 
+-- a service with this program alone
+abbrev pub service_of : Head → List Route → DumpService
+service_of h program = record {
+  setting = record { me = h.me; peers = h.peers; program = program; weight = 0; alone = h.alone };
+  programs = record { first = program; later = [] };
+  entries = [];
+  rows = [];
+}
+
 -- behind `peers`
 abbrev pub prepared : Head → ℕ → Line → Next
-prepared h n (Program program) =
-    Ok (Within (record { setting = record { me = h.me; peers = h.peers; program = program; weight = 0; alone = h.alone }; entries = []; rows = [] }))
+prepared h n (Program program) = Ok (Within (service_of h program))
 prepared h n line = Err (refusal.Shape n)
 
--- an entry, of which no call is told yet
-abbrev pub entry_of : EntryLine → DumpEntry
-entry_of line = record {
+-- neither an entry nor a row is told yet
+abbrev pub is_empty : DumpService → Bool
+is_empty s = nat_eq (length s.entries) 0 && nat_eq (length s.rows) 0
+
+-- a program more stands before the entries
+abbrev pub with_next_program : DumpService → ℕ → List Route → Next
+with_next_program s n program =
+    if is_empty s then Ok (Within (record { setting = s.setting; programs = with_later s.programs program; entries = s.entries; rows = s.rows }))
+    else Err (refusal.Shape n)
+
+-- an entry under its service's first program, of which no call is told yet
+abbrev pub entry_of : List Route → EntryLine → DumpEntry
+entry_of first line = record {
   id = line.id;
   origin = line.origin;
   version = line.version;
@@ -116,6 +136,8 @@ entry_of line = record {
   struck = line.struck;
   inputs = line.inputs;
   request = line.request;
+  under = 1;
+  program = first;
   numbers = [];
   calls = [];
   answers = [];
@@ -127,12 +149,34 @@ abbrev pub with_entry : DumpService → ℕ → EntryLine → Next
 with_entry s n line =
     if not (nat_eq (length s.rows) 0) then Err (refusal.Shape n)
     else (if is_entered line s.entries then Err (refusal.Twice n)
-    else Ok (Runs (record { setting = s.setting; entries = s.entries; entry = entry_of line })))
+    else Ok (Runs (record { setting = s.setting; programs = s.programs; entries = s.entries; entry = entry_of s.programs.first line })))
 
 abbrev pub with_row : DumpService → ℕ → Cell → Next
 with_row s n c =
-    if is_behind s.rows c then Ok (Within (record { setting = s.setting; entries = s.entries; rows = s.rows ++ c ∷ [] }))
+    if is_behind s.rows c then Ok (Within (record { setting = s.setting; programs = s.programs; entries = s.entries; rows = s.rows ++ c ∷ [] }))
     else (if is_kept c s.rows then Err (refusal.Twice n) else Err (refusal.Rows n))
+
+-- neither a program nor a call is told of it yet
+abbrev pub is_bare : DumpEntry → Bool
+is_bare e = nat_eq e.under 1 && nat_eq (length e.numbers) 0
+
+-- under the program of this number
+abbrev pub put_under : DumpEntry → ℕ → List Route → DumpEntry
+put_under e number program = record {
+  id = e.id;
+  origin = e.origin;
+  version = e.version;
+  wanted = e.wanted;
+  struck = e.struck;
+  inputs = e.inputs;
+  request = e.request;
+  under = number;
+  program = program;
+  numbers = e.numbers;
+  calls = e.calls;
+  answers = e.answers;
+  reply = e.reply;
+}
 
 -- each call has its answer
 abbrev pub all_answered : DumpEntry → Bool
@@ -153,6 +197,8 @@ with_made e number call = record {
   struck = e.struck;
   inputs = e.inputs;
   request = e.request;
+  under = e.under;
+  program = e.program;
   numbers = e.numbers ++ number ∷ [];
   calls = e.calls ++ call ∷ [];
   answers = e.answers;
@@ -169,6 +215,8 @@ consuming e r = record {
   struck = e.struck;
   inputs = e.inputs;
   request = e.request;
+  under = e.under;
+  program = e.program;
   numbers = e.numbers;
   calls = e.calls;
   answers = e.answers ++ r ∷ [];
@@ -185,6 +233,8 @@ replying e reply = record {
   struck = e.struck;
   inputs = e.inputs;
   request = e.request;
+  under = e.under;
+  program = e.program;
   numbers = e.numbers;
   calls = e.calls;
   answers = e.answers;
@@ -193,7 +243,15 @@ replying e reply = record {
 
 -- the same service, of which another entry runs
 abbrev pub running_as : Running → DumpEntry → Stage
-running_as r e = Runs (record { setting = r.setting; entries = r.entries; entry = e })
+running_as r e = Runs (record { setting = r.setting; programs = r.programs; entries = r.entries; entry = e })
+
+abbrev pub under_it : Running → ℕ → ℕ → Option (List Route) → Next
+under_it r n number None = Err (refusal.Shape n)
+under_it r n number (Some program) = Ok (running_as r (put_under r.entry number program))
+
+-- directly behind an entry: one of its service's programs behind the first
+abbrev pub with_under : Running → ℕ → ℕ → Next
+with_under r n number = if is_bare r.entry then under_it r n number (later_at number r.programs.later) else Err (refusal.Shape n)
 
 abbrev pub with_call : Running → ℕ → CallLine → Next
 with_call r n c =
@@ -208,10 +266,11 @@ with_answer r n answer =
 abbrev pub with_reply : Running → ℕ → Option Response → Next
 with_reply r n reply =
     if not (all_answered r.entry) then Err (refusal.Shape n)
-    else Ok (Within (record { setting = r.setting; entries = r.entries ++ replying r.entry reply ∷ []; rows = [] }))
+    else Ok (Within (record { setting = r.setting; programs = r.programs; entries = r.entries ++ replying r.entry reply ∷ []; rows = [] }))
 
--- behind `entry`, `call` or `answer`
+-- behind `entry`, `under`, `call` or `answer`
 abbrev pub run_on : Running → ℕ → Line → Next
+run_on r n (Under number) = with_under r n number
 run_on r n (Call c) = with_call r n c
 run_on r n (Answer answer) = with_answer r n answer
 run_on r n (Reply reply) = with_reply r n reply
@@ -239,6 +298,7 @@ taken false why services stage = Err why
 
 -- behind `program`, `reply` or `row`, where the service may end
 abbrev pub kept : List DumpService → DumpService → ℕ → Line → Stepped
+kept services s n (Program program) = staying services (with_next_program s n program)
 kept services s n (Entry line) = staying services (with_entry s n line)
 kept services s n (Row c) = staying services (with_row s n c)
 kept services s n End = Ok (services ++ s ∷ [], Between)
@@ -252,22 +312,23 @@ step services (Headed h) n line = staying services (prepared h n line)
 step services (Within s) n line = kept services s n line
 step services (Runs r) n line = staying services (run_on r n line)
 
-abbrev pub is_headed : Stage → Bool
-is_headed Between = false
-is_headed (Named me) = false
-is_headed (Headed h) = true
-is_headed (Within s) = false
-is_headed (Runs r) = false
+-- a program stands behind `peers` or another program
+abbrev pub may_have_program : Stage → Bool
+may_have_program Between = false
+may_have_program (Named me) = false
+may_have_program (Headed h) = true
+may_have_program (Within s) = is_empty s
+may_have_program (Runs r) = false
 
--- behind `peers` the program of a service can't be read; anywhere else a program has no place
+-- where a program may stand it can't be read; anywhere else it has no place
 abbrev pub misread : Bool → ℕ → LineFault → DumpRefused
-misread headed n fault.Text = refusal.Text n
-misread headed n fault.Shape = refusal.Shape n
-misread headed n (fault.Program why) = if headed then refusal.Program n why else refusal.Shape n
+misread expected n fault.Text = refusal.Text n
+misread expected n fault.Shape = refusal.Shape n
+misread expected n (fault.Program why) = if expected then refusal.Program n why else refusal.Shape n
 
 abbrev pub step_read : List DumpService → Stage → ℕ → Read → Stepped
 step_read services stage n (Ok line) = step services stage n line
-step_read services stage n (Err why) = Err (misread (is_headed stage) n why)
+step_read services stage n (Err why) = Err (misread (may_have_program stage) n why)
 
 -- goes on with what was read
 abbrev pub and_then : {X Y : Type 0} → Result X DumpRefused → (X → Result Y DumpRefused) → Result Y DumpRefused

@@ -1,16 +1,17 @@
 -- Which text writes which services down.
-use Rattle.std.specs.Prelude.{◌≡◌, ℕ, List, [], ◌∷◌, ◌++◌, Ok, map}
+use Rattle.std.specs.Prelude.{◌≡◌, ℕ, List, [], ◌∷◌, ◌++◌, Ok, nat_eq, map, if◌then◌else◌}
 use Rattle.std.specs.List.{flat_map}
 use Rattle.lang_core.specs.declared.request.Response.{Response}
 use Rattle.lang_core.specs.declared.setting.Setting.{Setting}
 use Rattle.lang_core.specs.declared.trace.CallMade.{CallMade}
 use Rattle.dump_tables.specs.declared.dump.DumpEntry.{DumpEntry}
 use Rattle.dump_tables.specs.declared.dump.DumpService.{DumpService}
+use Rattle.dump_tables.specs.declared.programs.DumpPrograms.{DumpPrograms}
 use Rattle.dump_words.specs.Lines.{Read, line_at}
 use Rattle.dump_words.specs.declared.line.CallLine.{CallLine}
 use Rattle.dump_words.specs.declared.line.EntryLine.{EntryLine}
 use Rattle.dump_words.specs.declared.line.Line.{Line}
-use Rattle.dump_words.specs.declared.line.Line.TheVariants.{Service, Peers, Program, Entry, Call, Answer, Reply, Row, End}
+use Rattle.dump_words.specs.declared.line.Line.TheVariants.{Service, Peers, Program, Entry, Under, Call, Answer, Reply, Row, End}
 use Rattle.dump_reader.specs.Reading.{lines_of}
 
 -- what the line of an entry says of it
@@ -36,21 +37,25 @@ call_lines (n ∷ ns) (c ∷ cs) (r ∷ rs) = Call (call_line n c) ∷ Answer r 
 call_lines (n ∷ ns) (c ∷ cs) [] = Call (call_line n c) ∷ call_lines ns cs []
 call_lines ns cs rs = []
 
--- an entry, and its calls
-abbrev pub begun_lines : DumpEntry → List Line
-begun_lines e = Entry (entry_line e) ∷ call_lines e.numbers e.calls e.answers
+-- under which of its service's programs an entry runs, where that isn't the first
+abbrev pub under_lines : ℕ → List Line
+under_lines number = if nat_eq number 1 then [] else Under number ∷ []
 
--- an entry, its calls in the order of their slots, and its reply
+-- an entry, its program, and its calls
+abbrev pub begun_lines : DumpEntry → List Line
+begun_lines e = Entry (entry_line e) ∷ (under_lines e.under ++ call_lines e.numbers e.calls e.answers)
+
+-- an entry, its program, its calls in the order of their slots, and its reply
 abbrev pub entry_lines : DumpEntry → List Line
 entry_lines e = begun_lines e ++ Reply e.reply ∷ []
 
--- `service`, `peers` and `program`
-abbrev pub head_lines : Setting → List Line
-head_lines s = Service s.me ∷ Peers s.peers ∷ Program s.program ∷ []
+-- `service`, `peers`, and `program` for each program: the setting's, and those behind it
+abbrev pub head_lines : Setting → DumpPrograms → List Line
+head_lines s programs = Service s.me ∷ Peers s.peers ∷ Program s.program ∷ map Program programs.later
 
 -- a service up to its last row
 abbrev pub inner_lines : DumpService → List Line
-inner_lines s = head_lines s.setting ++ (flat_map entry_lines s.entries ++ map Row s.rows)
+inner_lines s = head_lines s.setting s.programs ++ (flat_map entry_lines s.entries ++ map Row s.rows)
 
 abbrev pub service_lines : DumpService → List Line
 service_lines s = inner_lines s ++ End ∷ []

@@ -1,17 +1,17 @@
 // An entry whose lines go on.
 ghost use Rattle.std.specs.Prelude.{◌≡◌, OnOk};
 ghost use Rattle.dump_tables.specs.Indexed.{has_number};
-ghost use Rattle.dump_reader.specs.Reading.{all_answered, consuming, entry_of, replying, with_made};
+ghost use Rattle.dump_reader.specs.Reading.{all_answered, consuming, entry_of, is_bare, put_under, replying, with_made};
 
 use crate::stage::Calling;
 use dump_tables::{DumpEntry, Numbers};
 use dump_words::EntryLine;
-use lang_core::{Answers, CallMade, Calls, Names, NoMemory, Response};
+use lang_core::{Answers, CallMade, Calls, Names, NoMemory, Program, Response, Shared};
 use lang_lists::HashIndex;
 use std::alloc::Global;
 
-fn entry_of(alloc: Global, line: EntryLine) -> DumpEntry
-    ensures { result ≡ entry_of line }
+fn entry_of(alloc: Global, first: Shared<Program>, line: EntryLine) -> DumpEntry
+    ensures { result ≡ entry_of first line }
 {
     DumpEntry {
         id: line.id,
@@ -21,6 +21,8 @@ fn entry_of(alloc: Global, line: EntryLine) -> DumpEntry
         struck: line.struck,
         inputs: line.inputs,
         request: line.request,
+        under: 1,
+        program: first,
         numbers: Numbers::new(alloc),
         calls: Calls::new(alloc),
         answers: Answers::new(alloc),
@@ -29,12 +31,12 @@ fn entry_of(alloc: Global, line: EntryLine) -> DumpEntry
 }
 
 impl Calling {
-    /// An entry, of which no call is told yet.
-    pub(crate) fn of(alloc: Global, line: EntryLine) -> Calling
-        ensures { result ≡ entry_of line }
+    /// An entry under its service's first program, of which no call is told yet.
+    pub(crate) fn of(alloc: Global, first: Shared<Program>, line: EntryLine) -> Calling
+        ensures { result ≡ entry_of first line }
     {
         Calling {
-            entry: entry_of(alloc, line),
+            entry: entry_of(alloc, first, line),
             numbers: HashIndex::new(alloc),
         }
     }
@@ -44,6 +46,23 @@ impl Calling {
         ensures { result.now ≡ self.now.request.chain }
     {
         &self.entry.request.chain
+    }
+
+    /// Whether neither a program nor a call is told of it yet.
+    pub(crate) fn is_bare(&self) -> bool
+        ensures { result ≡ is_bare self.now }
+    {
+        self.entry.under == 1 && self.entry.numbers.len() == 0
+    }
+
+    /// The entry under the program of this number.
+    pub(crate) fn under(self, number: u64, program: Shared<Program>) -> Calling
+        ensures { result ≡ put_under self number program }
+    {
+        let mut calling = self;
+        calling.entry.under = number;
+        calling.entry.program = program;
+        calling
     }
 
     /// Whether each call has its answer.

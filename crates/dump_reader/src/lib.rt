@@ -10,7 +10,9 @@ mod refused;
 mod stage;
 mod steps;
 
-pub use dump_tables::{Dump, DumpEntries, DumpEntry, DumpService, DumpServices, Numbers};
+pub use dump_tables::{
+    Dump, DumpEntries, DumpEntry, DumpPrograms, DumpService, DumpServices, Numbers,
+};
 pub use dump_words::ProgramRefused;
 pub use reading::{LONGEST_DUMP, read_dump};
 pub use refused::DumpRefused;

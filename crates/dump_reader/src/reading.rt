@@ -3,12 +3,12 @@ ghost use Rattle.std.specs.Prelude.{◌≡◌, ◌∷◌, [], ◌<◌, ◌≤◌
 ghost use Rattle.dump_tables.specs.Kept.{AreKept};
 ghost use Rattle.dump_tables.specs.declared.dump.DumpService.{DumpService};
 ghost use Rattle.dump_words.specs.Lines.{line_at};
-ghost use Rattle.dump_reader.specs.Reading.{Answers, all_read, is_between, is_headed, lines_of, misread, read_of, services_of, step, step_read, stepped, taken, with_lines};
+ghost use Rattle.dump_reader.specs.Reading.{Answers, all_read, is_between, may_have_program, lines_of, misread, read_of, services_of, step, step_read, stepped, taken, with_lines};
 ghost use Rattle.dump_reader.specs.Spelled.{Spells};
 
 use crate::refused::{DumpRefused, without};
 use crate::stage::Stage;
-use crate::steps::next_stage;
+use crate::steps::{is_empty, next_stage};
 use dump_tables::{Dump, DumpServices};
 use dump_words::{Line, LineFault, read_line};
 use lang_core::NoMemory;
@@ -38,26 +38,26 @@ fn cut_line(bytes: &[u8]) -> (&[u8], &[u8])
     }
 }
 
-fn is_headed(stage: &Stage) -> bool
-    ensures { result ≡ is_headed stage.now }
+fn may_have_program(stage: &Stage) -> bool
+    ensures { result ≡ may_have_program stage.now }
 {
     match stage {
         Stage::Between => false,
         Stage::Named(_) => false,
         Stage::Headed(_) => true,
-        Stage::Within(_) => false,
+        Stage::Within(service) => is_empty(service),
         Stage::Runs(_) => false,
     }
 }
 
-fn misread(headed: bool, n: u64, why: LineFault) -> DumpRefused
-    ensures { result ≡ misread headed n why }
+fn misread(expected: bool, n: u64, why: LineFault) -> DumpRefused
+    ensures { result ≡ misread expected n why }
 {
     match why {
         LineFault::Text => DumpRefused::Text(n),
         LineFault::Shape => DumpRefused::Shape(n),
         LineFault::Program(why) => {
-            if headed {
+            if expected {
                 DumpRefused::Program(n, why)
             } else {
                 DumpRefused::Shape(n)
@@ -104,7 +104,7 @@ fn step_read(
 {
     match read {
         Ok(line) => step(alloc, services, stage, n, line),
-        Err(why) => Err(misread(is_headed(stage), n, why)),
+        Err(why) => Err(misread(may_have_program(stage), n, why)),
     }
 }
 

@@ -1,7 +1,7 @@
 // Where the lines of a dump leave off.
 ghost use Rattle.std.specs.Prelude.{Contains};
 
-use dump_tables::{DumpEntries, DumpEntry, DumpService};
+use dump_tables::{DumpEntries, DumpEntry, DumpPrograms, DumpService};
 use lang_core::{Name, Names, Setting};
 use lang_lists::HashIndex;
 use std::marker::Model;
@@ -37,6 +37,7 @@ impl Model for Calling {
 #[derive(Drop)]
 pub struct Running {
     pub setting: Setting,
+    pub programs: DumpPrograms,
     pub entries: DumpEntries,
     pub entry: Calling,
 }
@@ -52,6 +53,6 @@ pub enum Stage {
     Headed(Head),
     /// Behind `program`, `reply` or `row`.
     Within(DumpService),
-    /// Behind `entry`, `call` or `answer`.
+    /// Behind `entry`, `under`, `call` or `answer`.
     Runs(Running),
 }

@@ -5,15 +5,16 @@ ghost use Rattle.std.specs.Option.{option_copied};
 ghost use Rattle.lang_base.specs.Texts.{same_text};
 ghost use Rattle.dump_tables.specs.Indexed.{has_number};
 ghost use Rattle.dump_words.specs.declared.line.Line.{Line};
-ghost use Rattle.dump_reader.specs.Reading.{Answers, begun, call_of, consuming, entry_of, headed, head_of, is_behind, is_behind_row, is_entered, is_kept, kept, last_of, prepared, replying, run_on, running_as, staying, step, with_answer, with_call, with_entry, with_made, with_reply, with_row};
+ghost use Rattle.dump_reader.specs.Reading.{Answers, begun, call_of, consuming, entry_of, headed, head_of, is_behind, is_behind_row, is_empty, is_entered, is_kept, kept, last_of, prepared, put_under, replying, run_on, running_as, service_of, staying, step, under_it, with_answer, with_call, with_entry, with_made, with_next_program, with_reply, with_row, with_under};
+ghost use Rattle.dump_tables.specs.Programs.{later_at, with_later};
 
 use crate::refused::{DumpRefused, without};
 use crate::stage::{Calling, Head, Running, Stage};
-use dump_tables::{DumpEntries, DumpService, DumpServices};
+use dump_tables::{DumpEntries, DumpPrograms, DumpService, DumpServices};
 use dump_words::{CallLine, EntryLine, Line};
 use lang_core::{
     CallMade, Cell, Cells, Copied, Name, Names, NoMemory, Origin, Placed, Program, Request,
-    Response, Same, Setting,
+    Response, Same, Setting, Shared,
 };
 use std::alloc::Global;
 use std::cmp::Ordering;
@@ -72,8 +73,8 @@ fn headed(me: Name, n: u64, line: Line) -> Result<Stage, DumpRefused>
     }
 }
 
-fn empty_service(alloc: Global, head: Head, program: Program) -> DumpService
-    ensures { prepared head 0 (Line.Program program) ≡ Ok (Stage.Within result) }
+fn service_with(alloc: Global, head: Head, program: Program, programs: DumpPrograms) -> DumpService
+    ensures { programs ≡ record { first = program; later = [] } → result ≡ service_of head program }
 {
     let Head { me, peers } = head;
     DumpService {
@@ -83,17 +84,61 @@ fn empty_service(alloc: Global, head: Head, program: Program) -> DumpService
             program,
             weight: 0,
         },
+        programs,
         entries: DumpEntries::new(alloc),
         rows: Cells::new(alloc),
     }
 }
 
+fn service_of(alloc: Global, head: Head, program: Program) -> Result<Stage, DumpRefused>
+    ensures { Answers result (Ok (Stage.Within (service_of head program))) }
+{
+    match DumpPrograms::of(alloc, &program) {
+        Ok(programs) => Ok(Stage::Within(service_with(alloc, head, program, programs))),
+        Err(NoMemory) => Err(without(head, without(program, DumpRefused::NoMemory))),
+    }
+}
+
 fn prepared(alloc: Global, head: Head, n: u64, line: Line) -> Result<Stage, DumpRefused>
-    ensures { result ≡ prepared head n line }
+    ensures { Answers result (prepared head n line) }
 {
     match line {
-        Line::Program(program) => Ok(Stage::Within(empty_service(alloc, head, program))),
+        Line::Program(program) => service_of(alloc, head, program),
         other => Err(without(head, without(other, DumpRefused::Shape(n)))),
+    }
+}
+
+// ---- programs behind the first
+
+/// Whether neither an entry nor a row is told yet.
+pub(crate) fn is_empty(service: &DumpService) -> bool
+    ensures { result ≡ is_empty service.now }
+{
+    service.entries.as_slice().is_empty() && service.rows.len() == 0
+}
+
+fn put_program(alloc: Global, service: DumpService, program: Program) -> Result<Stage, DumpRefused>
+    ensures { Answers result (Ok (Stage.Within (record { setting = service.setting; programs = with_later service.programs program; entries = service.entries; rows = service.rows }))) }
+{
+    let mut service = service;
+    match service.programs.push(alloc, program) {
+        Ok(()) => Ok(Stage::Within(service)),
+        Err(NoMemory) => Err(without(service, DumpRefused::NoMemory)),
+    }
+}
+
+fn with_next_program(
+    alloc: Global,
+    service: DumpService,
+    n: u64,
+    program: Program,
+) -> Result<Stage, DumpRefused>
+    ensures { Answers result (with_next_program service n program) }
+{
+    if is_empty(&service) {
+        put_program(alloc, service, program)
+    } else {
+        Err(without(service, without(program, DumpRefused::Shape(n))))
     }
 }
 
@@ -111,13 +156,23 @@ fn is_entered(line: &EntryLine, entries: &DumpEntries) -> bool
     }
 }
 
-fn running(alloc: Global, service: DumpService, line: EntryLine) -> Running
-    ensures { result ≡ record { setting = service.setting; entries = service.entries; entry = entry_of line } }
+fn running(alloc: Global, service: DumpService, first: Shared<Program>, line: EntryLine) -> Running
+    ensures { result ≡ record { setting = service.setting; programs = service.programs; entries = service.entries; entry = entry_of first line } }
 {
     Running {
         setting: service.setting,
+        programs: service.programs,
         entries: service.entries,
-        entry: Calling::of(alloc, line),
+        entry: Calling::of(alloc, first, line),
+    }
+}
+
+fn entered(alloc: Global, service: DumpService, line: EntryLine) -> Result<Stage, DumpRefused>
+    ensures { Answers result (Ok (Stage.Runs (record { setting = service.setting; programs = service.programs; entries = service.entries; entry = entry_of service.programs.first line }))) }
+{
+    match service.programs.first.copied(alloc) {
+        Ok(first) => Ok(Stage::Runs(running(alloc, service, first, line))),
+        Err(NoMemory) => Err(without(service, without(line, DumpRefused::NoMemory))),
     }
 }
 
@@ -127,14 +182,14 @@ fn with_entry(
     n: u64,
     line: EntryLine,
 ) -> Result<Stage, DumpRefused>
-    ensures { result ≡ with_entry service n line }
+    ensures { Answers result (with_entry service n line) }
 {
     if service.rows.len() != 0 {
         Err(without(service, without(line, DumpRefused::Shape(n))))
     } else if is_entered(&line, &service.entries) {
         Err(without(service, without(line, DumpRefused::Twice(n))))
     } else {
-        Ok(Stage::Runs(running(alloc, service, line)))
+        entered(alloc, service, line)
     }
 }
 
@@ -177,7 +232,7 @@ fn is_behind(rows: &[Cell], cell: &Cell) -> bool
 #[tactic(auto, using(crate::proofs::RowLemmas::ordered_more))]
 fn push_row(service: DumpService, cell: Cell) -> Result<Stage, DumpRefused>
     requires { is_behind service.rows cell ≡ true }
-    ensures { Answers result (Ok (Stage.Within (record { setting = service.setting; entries = service.entries; rows = service.rows ++ cell ∷ [] }))) }
+    ensures { Answers result (Ok (Stage.Within (record { setting = service.setting; programs = service.programs; entries = service.entries; rows = service.rows ++ cell ∷ [] }))) }
 {
     let mut service = service;
     service.rows.push(cell)?;
@@ -203,6 +258,65 @@ fn with_row(service: DumpService, n: u64, cell: Cell) -> Result<Stage, DumpRefus
     } else {
         let why = no_row(service.rows.as_slice(), n, &cell);
         Err(without(service, without(cell, why)))
+    }
+}
+
+// ---- the program of an entry
+
+fn later_at(
+    alloc: Global,
+    programs: &DumpPrograms,
+    number: u64,
+) -> Result<Option<Shared<Program>>, NoMemory>
+    ensures { IfOk result (λ program. program ≡ later_at number programs.now.later) }
+{
+    match programs.later_at(number) {
+        None => Ok(None),
+        Some(program) => Ok(Some(program.copied(alloc)?)),
+    }
+}
+
+fn under(running: Running, number: u64, program: Shared<Program>) -> Running
+    ensures { Stage.Runs result ≡ running_as running (put_under running.entry number program) }
+{
+    Running {
+        setting: running.setting,
+        programs: running.programs,
+        entries: running.entries,
+        entry: running.entry.under(number, program),
+    }
+}
+
+fn under_it(
+    running: Running,
+    n: u64,
+    number: u64,
+    program: Option<Shared<Program>>,
+) -> Result<Stage, DumpRefused>
+    ensures { result ≡ under_it running n number program }
+{
+    match program {
+        None => Err(without(running, DumpRefused::Shape(n))),
+        Some(program) => Ok(Stage::Runs(under(running, number, program))),
+    }
+}
+
+fn put_under(alloc: Global, running: Running, n: u64, number: u64) -> Result<Stage, DumpRefused>
+    ensures { Answers result (under_it running n number (later_at number running.programs.later)) }
+{
+    match later_at(alloc, &running.programs, number) {
+        Ok(program) => under_it(running, n, number, program),
+        Err(NoMemory) => Err(without(running, DumpRefused::NoMemory)),
+    }
+}
+
+fn with_under(alloc: Global, running: Running, n: u64, number: u64) -> Result<Stage, DumpRefused>
+    ensures { Answers result (with_under running n number) }
+{
+    if running.entry.is_bare() {
+        put_under(alloc, running, n, number)
+    } else {
+        Err(without(running, DumpRefused::Shape(n)))
     }
 }
 
@@ -289,11 +403,12 @@ fn with_answer(running: Running, n: u64, answer: Response) -> Result<Stage, Dump
 }
 
 fn replied(alloc: Global, running: Running, reply: Option<Response>) -> Result<Stage, DumpRefused>
-    ensures { Answers result (Ok (Stage.Within (record { setting = running.setting; entries = running.entries ++ replying running.entry reply ∷ []; rows = [] }))) }
+    ensures { Answers result (Ok (Stage.Within (record { setting = running.setting; programs = running.programs; entries = running.entries ++ replying running.entry reply ∷ []; rows = [] }))) }
 {
     let entry = running.entry.replying(reply);
     let mut service = DumpService {
         setting: running.setting,
+        programs: running.programs,
         entries: running.entries,
         rows: Cells::new(alloc),
     };
@@ -320,6 +435,7 @@ fn run_on(alloc: Global, running: Running, n: u64, line: Line) -> Result<Stage, 
     ensures { Answers result (run_on running n line) }
 {
     match line {
+        Line::Under(number) => with_under(alloc, running, n, number),
         Line::Call(line) => with_call(alloc, running, n, line),
         Line::Answer(answer) => with_answer(running, n, answer),
         Line::Reply(reply) => with_reply(alloc, running, n, reply),
@@ -346,6 +462,7 @@ fn kept(
     ensures { Answers (staying services.new result) (kept services.old service n line) }
 {
     match line {
+        Line::Program(program) => with_next_program(alloc, service, n, program),
         Line::Entry(line) => with_entry(alloc, service, n, line),
         Line::Row(cell) => with_row(service, n, cell),
         Line::End => end_service(services, service),

@@ -15,7 +15,7 @@ use Rattle.handler_lang.specs.Reading.{read_of}
 use Rattle.handler_lang.specs.declared.refused.ProgramRefused.{ProgramRefused}
 use Rattle.dump_words.specs.Parts.{alone, at_end, body_behind, cut_at, flag_part, from_one, in_u16, key_part, moment_of, name_part, names_part, origin_part, path_part, table_part, text_behind, who_part, with_part, with_word}
 use Rattle.dump_words.specs.declared.line.Line.{Line}
-use Rattle.dump_words.specs.declared.line.Line.TheVariants.{Service, Peers, Program, Entry, Call, Answer, Reply, Row, End}
+use Rattle.dump_words.specs.declared.line.Line.TheVariants.{Service, Peers, Program, Entry, Under, Call, Answer, Reply, Row, End}
 use Rattle.dump_words.specs.declared.line.LineFault.{LineFault}
 use Rattle.dump_words.specs.declared.line.LineFault.TheVariants as fault
 
@@ -111,6 +111,10 @@ unfoldable pub entry_at : Option (List ℕ) → Option Line
 entry_at rest = with_part (cut_standing rest) (λ s. with_part (cut_inputs s.5) (λ i.
     entry_of s.0 s.2 s.3 s.4 i.0 (origin_part s.1) (request_at i.1)))
 
+-- `K` alone
+abbrev pub under_at : Option (List ℕ) → Option Line
+under_at rest = with_part (alone rest) (λ word. with_part (number_of word) (λ number. Some (Under number)))
+
 -- the call of these parts
 abbrev pub call_of : ℕ → Method → Option (List ℕ) → Option (List ℕ) → Option (List ℕ) → Option Line
 call_of number method dest path body =
@@ -178,12 +182,13 @@ words_at word rest =
     else (if same_text word (codes "peers") then shaped (peers_at rest)
     else (if same_text word (codes "program") then program_at rest
     else (if same_text word (codes "entry") then shaped (entry_at rest)
+    else (if same_text word (codes "under") then shaped (under_at rest)
     else (if same_text word (codes "call") then shaped (call_at rest)
     else (if same_text word (codes "answer") then shaped (answer_at rest)
     else (if same_text word (codes "reply") then shaped (reply_at rest)
     else (if same_text word (codes "row") then shaped (row_at rest)
     else (if same_text word (codes "end") then shaped (at_end rest (Some End))
-    else Err fault.Shape))))))))
+    else Err fault.Shape)))))))))
 
 -- what a line says; its text is tested first
 unfoldable pub line_at : List ℕ → Read

@@ -42,10 +42,12 @@ pub enum Line {
     Service(Name),
     /// `peers A,B` or `peers -`: the services that it may call.
     Peers(Names),
-    /// `program TEXT`: its program.
+    /// `program TEXT`: the next of its programs.
     Program(Program),
     /// `entry ID ORIGIN V WANTED STRUCK MOMENT W1 .. W8 METHOD PATH WHO CHAIN BODY`: an entry begins.
     Entry(EntryLine),
+    /// `under K`: the number of the program that the entry runs under, where that isn't the first.
+    Under(u64),
     /// `call NUMBER DEST METHOD PATH BODY`: a call of the entry.
     Call(CallLine),
     /// `answer STATUS BODY`: what that call consumed.

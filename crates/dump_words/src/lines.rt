@@ -2,7 +2,7 @@
 ghost use Rattle.std.specs.Prelude.{◌≡◌, IfOk, Some};
 ghost use Rattle.std.specs.Option.{option_map};
 ghost use Rattle.handler_lang.specs.Reading.{read_of};
-ghost use Rattle.dump_words.specs.Lines.{answer_at, is_none, line_at, peers_at, program_at, program_of, programmed, reply_at, response_at, row_at, row_of, service_at, shaped, words_at};
+ghost use Rattle.dump_words.specs.Lines.{answer_at, is_none, line_at, peers_at, program_at, program_of, programmed, reply_at, response_at, row_at, row_of, service_at, shaped, under_at, words_at};
 ghost use Rattle.dump_words.specs.declared.line.Line.{Line};
 ghost use Rattle.dump_words.specs.Parts.{at_end, key_part, table_part};
 
@@ -13,7 +13,7 @@ use crate::parts::{
 use crate::requests::{read_call, read_entry};
 use handler_lang::{ProgramRefused, read_program};
 use lang_core::{Cell, NoMemory, Program, Response, Text};
-use request_names::{cut_word, name_part};
+use request_names::{cut_word, name_part, read_number};
 use std::alloc::Global;
 
 fn read_service(alloc: Global, rest: Option<&str>) -> Result<Option<Line>, NoMemory>
@@ -154,6 +154,14 @@ fn read_program_line(alloc: Global, rest: Option<&str>) -> Result<Result<Line, L
     }
 }
 
+fn read_under(rest: Option<&str>) -> Option<Line>
+    ensures { result ≡ under_at (option_map (λ x. x.now) rest.entry) }
+{
+    let word = alone(rest)?;
+    let number = read_number(word)?;
+    Some(Line::Under(number))
+}
+
 fn read_end(rest: Option<&str>) -> Option<Line>
     ensures { result ≡ at_end (option_map (λ x. x.now) rest.entry) (Some Line.End) }
 {
@@ -176,6 +184,7 @@ fn read_words(
         "peers" => Ok(shaped(read_peers(alloc, rest)?)),
         "program" => read_program_line(alloc, rest),
         "entry" => Ok(shaped(read_entry(alloc, rest)?)),
+        "under" => Ok(shaped(read_under(rest))),
         "call" => Ok(shaped(read_call(alloc, rest)?)),
         "answer" => Ok(shaped(read_answer(alloc, rest)?)),
         "reply" => Ok(shaped(read_reply(alloc, rest)?)),
