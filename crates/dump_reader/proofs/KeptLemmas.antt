@@ -1,31 +1,33 @@
 -- What is read is told once and whole.
-use Rattle.std.proofs.Common.{◌≡◌, ℕ, Bool, true, false, cond, not, List, [], ◌∷◌, ◌++◌, Option, Ok, Err, nat_eq, ◌+◌, length, map, refl, sym, ap, ◌∙◌, subst, append_assoc, append-nil, eq-eqb, ◌&&◌, ◌||◌}
+use Rattle.std.proofs.Common.{◌≡◌, ℕ, Bool, true, false, cond, not, List, [], ◌∷◌, ◌++◌, Option, Some, None, Ok, Err, nat_eq, ◌+◌, length, map, refl, sym, ap, ◌∙◌, subst, append_assoc, append-nil, eq-eqb, ◌&&◌, ◌||◌}
 use Rattle.std.specs.List.{AllByRecursion, list_any}
 use Rattle.std.specs.Cmp.Lexicographic.{nat_list_eq_equiv}
-use Rattle.std.proofs.lemmas.Bool.{and_from}
+use Rattle.std.proofs.lemmas.Bool.{and_from, and_parts}
 use Rattle.lang_base.specs.Texts.{same_text}
+use Rattle.lang_core.specs.HandedOn.{Route}
 use Rattle.lang_core.specs.Origins.{is_call}
 use Rattle.lang_core.specs.declared.cells.Cell.{Cell}
 use Rattle.lang_core.specs.declared.ids.Origin.{Origin}
 use Rattle.lang_core.specs.declared.ids.Origin.TheVariants.{Outside, Call as FromCall}
 use Rattle.lang_core.specs.declared.request.Response.{Response}
-use Rattle.dump_tables.specs.Kept.{AreApart, AreKept, IsKept, IsSent, IsWhole, call_behind, calls_behind, numbers_of, service_name}
+use Rattle.dump_tables.specs.Kept.{AreApart, AreKept, IsKept, IsSent, IsUnder, IsWhole, call_behind, calls_behind, numbers_of, service_name}
 use Rattle.dump_tables.specs.Indexed.{has_number}
+use Rattle.dump_tables.specs.Programs.{later_at, with_later}
 use Rattle.dump_tables.specs.declared.dump.DumpEntry.{DumpEntry}
 use Rattle.dump_tables.specs.declared.dump.DumpService.{DumpService}
 use Rattle.dump_words.specs.Lines.{line_at}
 use Rattle.dump_words.specs.declared.line.CallLine.{CallLine}
 use Rattle.dump_words.specs.declared.line.EntryLine.{EntryLine}
 use Rattle.dump_words.specs.declared.line.Line.{Line}
-use Rattle.dump_words.specs.declared.line.Line.TheVariants.{Service, Peers, Program, Entry, Call, Answer, Reply, Row, End}
-use Rattle.dump_reader.specs.Reading.{Next, Stepped, all_answered, begun, call_of, comes_from, consuming, entry_of, head_by, head_of, headed, is_behind, is_entered, is_kept, is_named, prepared, replying, run_on, running_as, staying, step, with_answer, with_call, with_entry, with_lines, with_made, with_reply, with_row}
+use Rattle.dump_words.specs.declared.line.Line.TheVariants.{Service, Peers, Program, Entry, Under, Call, Answer, Reply, Row, End}
+use Rattle.dump_reader.specs.Reading.{Next, Stepped, all_answered, begun, call_of, comes_from, consuming, entry_of, head_by, head_of, headed, is_bare, is_behind, is_empty, is_entered, is_kept, is_named, prepared, put_under, replying, run_on, running_as, service_of, staying, step, under_it, with_answer, with_call, with_entry, with_lines, with_made, with_next_program, with_reply, with_row, with_under}
 use Rattle.dump_reader.specs.declared.refused.DumpRefused.TheVariants as refusal
 use Rattle.dump_reader.specs.declared.stage.Head.{Head}
 use Rattle.dump_reader.specs.declared.stage.Running.{Running}
 use Rattle.dump_reader.specs.declared.stage.Stage.{Stage}
 use Rattle.dump_reader.specs.declared.stage.Stage.TheVariants.{Between, Named, Headed, Within, Runs}
 use Rattle.dump_reader.proofs.RowLemmas.{ordered_more}
-use Rattle.dump_reader.proofs.SpelledLemmas.{Fits, StageFits, all_are, flat_more, read_on, step_adds, unless}
+use Rattle.dump_reader.proofs.SpelledLemmas.{Fits, StageFits, all_are, flat_more, none_so as no_items, not_first, read_on, step_adds, unless, where_so}
 
 -- ---- lists
 
@@ -122,10 +124,13 @@ IsNew services me = AreApart (map service_name services ++ me ∷ [])
 -- what is kept while an entry's lines go on
 record RunKept (r : Running) : Type 0 where
   weight : r.setting.weight ≡ 0
+  first : r.programs.first ≡ r.setting.program
   ids : AreApart (map (λ e. e.id) r.entries ++ r.entry.id ∷ [])
   callers : AreApart (calls_behind r.entries ++ call_behind r.entry.origin)
   numbers : AreApart (numbers_of r.entries ++ r.entry.numbers)
   entries : AllByRecursion (IsWhole r.setting.me) r.entries
+  under : AllByRecursion (IsUnder r.programs) r.entries
+  own : IsUnder r.programs r.entry
   sent : AllByRecursion (IsSent r.setting.me r.entry.request.chain) r.entry.calls
 
 abbrev StageKept : List DumpService → Stage → Type 0
@@ -148,6 +153,7 @@ begun_kept services n (Service name) next kept h =
 begun_kept services n (Peers x) next kept h = absurd cc
 begun_kept services n (Program x) next kept h = absurd cc
 begun_kept services n (Entry x) next kept h = absurd cc
+begun_kept services n (Under x) next kept h = absurd cc
 begun_kept services n (Call x) next kept h = absurd cc
 begun_kept services n (Answer x) next kept h = absurd cc
 begun_kept services n (Reply x) next kept h = absurd cc
@@ -164,6 +170,7 @@ headed_kept services me n (Peers peers) next new h = head_kept services me peers
 headed_kept services me n (Service x) next new h = absurd cc
 headed_kept services me n (Program x) next new h = absurd cc
 headed_kept services me n (Entry x) next new h = absurd cc
+headed_kept services me n (Under x) next new h = absurd cc
 headed_kept services me n (Call x) next new h = absurd cc
 headed_kept services me n (Answer x) next new h = absurd cc
 headed_kept services me n (Reply x) next new h = absurd cc
@@ -172,21 +179,42 @@ headed_kept services me n End next new h = absurd cc
 
 prepared_kept : (services : List DumpService) (head : Head) (n : ℕ) (line : Line) (next : Stage) → IsNew services head.me → prepared head n line ≡ Ok next → StageKept services next
 prepared_kept services head n (Program program) next new h =
-    let s : DumpService = record { setting = record { me = head.me; peers = head.peers; program = program; weight = 0; alone = head.alone }; entries = []; rows = [] } in
-    kept_it services (Within s) next (new, record { weight = refl; ids = tt; callers = tt; numbers = tt; rows = tt; entries = tt }) h
+    kept_it services (Within (service_of head program)) next (new, record { weight = refl; first = refl; ids = tt; callers = tt; numbers = tt; rows = tt; entries = tt; under = tt }) h
 prepared_kept services head n (Service x) next new h = absurd cc
 prepared_kept services head n (Peers x) next new h = absurd cc
 prepared_kept services head n (Entry x) next new h = absurd cc
+prepared_kept services head n (Under x) next new h = absurd cc
 prepared_kept services head n (Call x) next new h = absurd cc
 prepared_kept services head n (Answer x) next new h = absurd cc
 prepared_kept services head n (Reply x) next new h = absurd cc
 prepared_kept services head n (Row x) next new h = absurd cc
 prepared_kept services head n End next new h = absurd cc
 
+program_kept : (services : List DumpService) (s : DumpService) (n : ℕ) (program : List Route) (next : Stage) → IsNew services s.setting.me → IsKept s
+    → with_next_program s n program ≡ Ok next → StageKept services next
+program_kept services s n program next new kept h =
+    let programs = with_later s.programs program in
+    let first = where_so (is_empty s) (Ok (Within (record { setting = s.setting; programs = programs; entries = s.entries; rows = s.rows }))) (refusal.Shape n) next h in
+    let none = no_items s.entries (and_parts (nat_eq (length s.entries) 0) (nat_eq (length s.rows) 0) first.0).0 in
+    let U : List DumpEntry → Type 0 = λ es. AllByRecursion (IsUnder programs) es in
+    kept_it services (Within (record { setting = s.setting; programs = programs; entries = s.entries; rows = s.rows })) next (
+      new,
+      record {
+        weight = kept.weight;
+        first = kept.first;
+        ids = kept.ids;
+        callers = kept.callers;
+        numbers = kept.numbers;
+        rows = kept.rows;
+        entries = kept.entries;
+        under = subst U (sym none) tt;
+      },
+    ) first.1
+
 entry_kept : (services : List DumpService) (s : DumpService) (n : ℕ) (line : EntryLine) (next : Stage) → IsNew services s.setting.me → IsKept s → with_entry s n line ≡ Ok next
     → StageKept services next
 entry_kept services s n line next new kept h =
-    let r : Running = record { setting = s.setting; entries = s.entries; entry = entry_of line } in
+    let r : Running = record { setting = s.setting; programs = s.programs; entries = s.entries; entry = entry_of s.programs.first line } in
     let first = unless (not (nat_eq (length s.rows) 0)) (refusal.Shape n) (cond (is_entered line s.entries) (Err (refusal.Twice n)) (Ok (Runs r))) next h in
     let second = unless (is_entered line s.entries) (refusal.Twice n) (Ok (Runs r)) next first.1 in
     kept_it services (Runs r) next (
@@ -196,16 +224,19 @@ entry_kept services s n line next new kept h =
         ids = apart_push (map (λ e. e.id) s.entries) line.id kept.ids (id_others line s.entries second.0);
         callers = callers_push line line.origin refl s.entries second.0 kept.callers;
         numbers = subst AreApart (sym (append-nil (numbers_of s.entries))) kept.numbers;
+        first = kept.first;
         entries = kept.entries;
+        under = kept.under;
+        own = refl;
         sent = tt;
       },
     ) second.1
 
 row_kept : (services : List DumpService) (b twice : Bool) (s : DumpService) (n : ℕ) (c : Cell) (next : Stage) → is_behind s.rows c ≡ b → IsNew services s.setting.me → IsKept s
-    → cond b (Ok (Within (record { setting = s.setting; entries = s.entries; rows = s.rows ++ c ∷ [] }))) (cond twice (Err (refusal.Twice n)) (Err (refusal.Rows n))) ≡ Ok next
+    → cond b (Ok (Within (record { setting = s.setting; programs = s.programs; entries = s.entries; rows = s.rows ++ c ∷ [] }))) (cond twice (Err (refusal.Twice n)) (Err (refusal.Rows n))) ≡ Ok next
     → StageKept services next
 row_kept services true twice s n c next behind new kept h =
-    kept_it services (Within (record { setting = s.setting; entries = s.entries; rows = s.rows ++ c ∷ [] })) next (
+    kept_it services (Within (record { setting = s.setting; programs = s.programs; entries = s.entries; rows = s.rows ++ c ∷ [] })) next (
       new,
       record {
         weight = kept.weight;
@@ -213,11 +244,38 @@ row_kept services true twice s n c next behind new kept h =
         callers = kept.callers;
         numbers = kept.numbers;
         rows = ordered_more s.rows c kept.rows behind;
+        first = kept.first;
         entries = kept.entries;
+        under = kept.under;
       },
     ) h
 row_kept services false true s n c next behind new kept h = absurd cc
 row_kept services false false s n c next behind new kept h = absurd cc
+
+under_so : (services : List DumpService) (r : Running) (n number : ℕ) (found : Option (List Route)) (next : Stage) → later_at number r.programs.later ≡ found → IsNew services r.setting.me → RunKept r
+    → under_it r n number found ≡ Ok next → StageKept services next
+under_so services r n number None next is new kept h = absurd cc
+under_so services r n number (Some program) next is new kept h =
+    let other = not_first number r.programs.later program is in
+    kept_it services (running_as r (put_under r.entry number program)) next (
+      new,
+      record {
+        weight = kept.weight;
+        first = kept.first;
+        ids = kept.ids;
+        callers = kept.callers;
+        numbers = kept.numbers;
+        entries = kept.entries;
+        under = kept.under;
+        own = ap (λ (b : Bool). cond b (Some r.programs.first) (later_at number r.programs.later)) other ∙ is;
+        sent = kept.sent;
+      },
+    ) h
+
+under_kept : (services : List DumpService) (r : Running) (n number : ℕ) (next : Stage) → IsNew services r.setting.me → RunKept r → with_under r n number ≡ Ok next → StageKept services next
+under_kept services r n number next new kept h =
+    let found = later_at number r.programs.later in
+    under_so services r n number found next refl new kept (where_so (is_bare r.entry) (under_it r n number found) (refusal.Shape n) next h).1
 
 call_kept : (services : List DumpService) (r : Running) (n : ℕ) (c : CallLine) (next : Stage) → IsNew services r.setting.me → RunKept r → with_call r n c ≡ Ok next → StageKept services next
 call_kept services r n c next new kept h =
@@ -238,7 +296,10 @@ call_kept services r n c next new kept h =
         ids = kept.ids;
         callers = kept.callers;
         numbers = subst AreApart (append_assoc (numbers_of r.entries) e.numbers (c.number ∷ [])) (apart_push front c.number kept.numbers none);
+        first = kept.first;
         entries = kept.entries;
+        under = kept.under;
+        own = kept.own;
         sent = all_push (IsSent r.setting.me e.request.chain) e.calls call kept.sent (refl, refl);
       },
     ) second.1
@@ -254,7 +315,10 @@ answer_kept services r n answer next new kept h =
         ids = kept.ids;
         callers = kept.callers;
         numbers = kept.numbers;
+        first = kept.first;
         entries = kept.entries;
+        under = kept.under;
+        own = kept.own;
         sent = kept.sent;
       },
     ) first.1
@@ -263,7 +327,7 @@ reply_kept : (services : List DumpService) (r : Running) (n : ℕ) (reply : Opti
     → StageKept services next
 reply_kept services r n reply next new kept fits h =
     let e = replying r.entry reply in
-    let s : DumpService = record { setting = r.setting; entries = r.entries ++ e ∷ []; rows = [] } in
+    let s : DumpService = record { setting = r.setting; programs = r.programs; entries = r.entries ++ e ∷ []; rows = [] } in
     let first = unless (not (all_answered r.entry)) (refusal.Shape n) (Ok (Within s)) next h in
     kept_it services (Within s) next (
       new,
@@ -273,12 +337,15 @@ reply_kept services r n reply next new kept fits h =
         callers = subst AreApart (sym (flat_more (λ x. call_behind x.origin) r.entries e)) kept.callers;
         numbers = subst AreApart (sym (flat_more (λ x. x.numbers) r.entries e)) kept.numbers;
         rows = tt;
+        first = kept.first;
+        under = all_push (IsUnder r.programs) r.entries e kept.under kept.own;
         entries = all_push (IsWhole r.setting.me) r.entries e kept.entries (record { named = fits.named; answered = all_are r.entry first.0; sent = kept.sent });
       },
     ) first.1
 
 run_kept : (services : List DumpService) (r : Running) (n : ℕ) (line : Line) (next : Stage) → IsNew services r.setting.me → RunKept r → Fits r.entry → run_on r n line ≡ Ok next
     → StageKept services next
+run_kept services r n (Under number) next new kept fits h = under_kept services r n number next new kept h
 run_kept services r n (Call c) next new kept fits h = call_kept services r n c next new kept h
 run_kept services r n (Answer answer) next new kept fits h = answer_kept services r n answer next new kept h
 run_kept services r n (Reply reply) next new kept fits h = reply_kept services r n reply next new kept fits h
@@ -319,6 +386,8 @@ step_kept services Between n line next kept here fits h = stayed services (begun
 step_kept services (Named me) n line next kept here fits h = stayed services (headed me n line) next kept (λ to e. headed_kept services me n line to here e) h
 step_kept services (Headed head) n line next kept here fits h =
     stayed services (prepared head n line) next kept (λ to e. prepared_kept services head n line to here e) h
+step_kept services (Within s) n (Program program) next kept here fits h =
+    stayed services (with_next_program s n program) next kept (λ to e. program_kept services s n program to here.0 here.1 e) h
 step_kept services (Within s) n (Entry line) next kept here fits h =
     stayed services (with_entry s n line) next kept (λ to e. entry_kept services s n line to here.0 here.1 e) h
 step_kept services (Within s) n (Row c) next kept here fits h =
@@ -326,7 +395,7 @@ step_kept services (Within s) n (Row c) next kept here fits h =
 step_kept services (Within s) n End next kept here fits h = ended_kept services s next kept here.0 here.1 h
 step_kept services (Within s) n (Service x) next kept here fits h = absurd cc
 step_kept services (Within s) n (Peers x) next kept here fits h = absurd cc
-step_kept services (Within s) n (Program x) next kept here fits h = absurd cc
+step_kept services (Within s) n (Under x) next kept here fits h = absurd cc
 step_kept services (Within s) n (Call x) next kept here fits h = absurd cc
 step_kept services (Within s) n (Answer x) next kept here fits h = absurd cc
 step_kept services (Within s) n (Reply x) next kept here fits h = absurd cc

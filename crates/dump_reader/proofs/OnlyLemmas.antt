@@ -1,5 +1,5 @@
 -- Each text whose lines say what a dump keeps is read as that.
-use Rattle.std.proofs.Common.{◌≡◌, ◌⊎◌, inl, inr, ℕ, suc, ◌+◌, ◌≤◌, Bool, true, false, cond, not, List, [], ◌∷◌, ◌++◌, None, Result, Ok, Err, nat_eq, nat_lt, length, map, refl, sym, ap, ◌∙◌, subst, append_assoc, append-nil, length-append, eq-eqb, eqb-true, ◌&&◌, ◌||◌, arith}
+use Rattle.std.proofs.Common.{◌≡◌, ◌⊎◌, inl, inr, ℕ, suc, ◌+◌, ◌≤◌, Bool, true, false, cond, not, List, [], ◌∷◌, ◌++◌, Option, Some, None, Result, Ok, Err, nat_eq, nat_lt, length, map, refl, sym, ap, ◌∙◌, subst, append_assoc, append-nil, length-append, eq-eqb, eqb-true, ◌&&◌, ◌||◌, arith}
 use Rattle.std.specs.List.{AllByRecursion, Contains, flat_map, list_any}
 use Rattle.std.specs.Cmp.Lexicographic.{same_text as text_is}
 use Rattle.std.specs.declared.cmp.Ordering.{Ordering}
@@ -8,6 +8,7 @@ use Rattle.std.proofs.lemmas.Bool.Decides.{nat_tests}
 use Rattle.std.proofs.lemmas.Grind.{flat_map-append}
 use Rattle.std.proofs.lemmas.List.{map-append}
 use Rattle.lang_base.specs.Texts.{same_text}
+use Rattle.lang_core.specs.HandedOn.{Route}
 use Rattle.lang_core.specs.Origins.{is_call}
 use Rattle.lang_core.specs.Places.{IsOrdered, by_order}
 use Rattle.lang_core.specs.Rows.{cell_place}
@@ -17,18 +18,21 @@ use Rattle.lang_core.specs.declared.ids.Origin.TheVariants.{Outside, Call as Fro
 use Rattle.lang_core.specs.declared.request.Response.{Response}
 use Rattle.lang_core.specs.declared.setting.Setting.{Setting}
 use Rattle.lang_core.specs.declared.trace.CallMade.{CallMade}
-use Rattle.dump_tables.specs.Kept.{AreApart, AreKept, IsKept, IsSent, IsWhole, call_behind, calls_behind, numbers_of, service_name}
+use Rattle.dump_tables.specs.Kept.{AreApart, AreKept, IsKept, IsSent, IsUnder, IsWhole, call_behind, calls_behind, numbers_of, service_name}
 use Rattle.dump_tables.specs.Indexed.{has_number}
+use Rattle.dump_tables.specs.Programs.{later_at}
 use Rattle.dump_tables.specs.declared.dump.DumpEntry.{DumpEntry}
 use Rattle.dump_tables.specs.declared.dump.DumpService.{DumpService}
+use Rattle.dump_tables.specs.declared.programs.DumpPrograms.{DumpPrograms}
 use Rattle.dump_words.specs.Lines.{Read, line_at}
 use Rattle.dump_words.specs.declared.line.Line.{Line}
-use Rattle.dump_words.specs.declared.line.Line.TheVariants.{Service, Peers, Program, Entry, Call, Answer, Reply, Row, End}
+use Rattle.dump_words.specs.declared.line.Line.TheVariants.{Service, Peers, Program, Entry, Under, Call, Answer, Reply, Row, End}
 use Rattle.dump_reader.specs.Alone.{not_among}
-use Rattle.dump_reader.specs.Reading.{Next, Stepped, all_answered, and_then, at_end, call_of, comes_from, head_by, is_behind, is_entered, is_kept, is_named, lines_of, read_of, staying, step, step_read, with_lines}
-use Rattle.dump_reader.specs.Spelled.{Spells, call_line, call_lines, dump_lines, entry_line, entry_lines, head_lines, says, service_lines}
+use Rattle.dump_reader.specs.Reading.{Next, Stepped, all_answered, and_then, at_end, call_of, comes_from, head_by, is_behind, is_entered, is_kept, is_named, lines_of, read_of, staying, step, step_read, under_it, with_lines}
+use Rattle.dump_reader.specs.Spelled.{Spells, call_line, call_lines, dump_lines, entry_line, entry_lines, head_lines, says, service_lines, under_lines}
 use Rattle.dump_reader.specs.declared.refused.DumpRefused.{DumpRefused}
 use Rattle.dump_reader.specs.declared.refused.DumpRefused.TheVariants as refusal
+use Rattle.dump_reader.specs.declared.stage.Running.{Running}
 use Rattle.dump_reader.specs.declared.stage.Stage.{Stage}
 use Rattle.dump_reader.specs.declared.stage.Stage.TheVariants.{Between, Named, Headed, Within, Runs}
 use Rattle.dump_reader.proofs.KeptLemmas.{AreOthers}
@@ -195,53 +199,55 @@ part e ns cs rs = record {
   struck = e.struck;
   inputs = e.inputs;
   request = e.request;
+  under = e.under;
+  program = e.program;
   numbers = ns;
   calls = cs;
   answers = rs;
   reply = None;
 }
 
-abbrev at_part : Setting → List DumpEntry → DumpEntry → List ℕ → List CallMade → List Response → Stage
-at_part setting done e ns cs rs = Runs (record { setting = setting; entries = done; entry = part e ns cs rs })
+abbrev at_part : Setting → DumpPrograms → List DumpEntry → DumpEntry → List ℕ → List CallMade → List Response → Stage
+at_part setting programs done e ns cs rs = Runs (record { setting = setting; programs = programs; entries = done; entry = part e ns cs rs })
 
 call_again : (me : List ℕ) (chain : List (List ℕ)) (n : ℕ) (c : CallMade) → IsSent me chain c → call_of me chain (call_line n c) ≡ c
 call_again me chain n c sent =
     λ i. record { dest = c.dest; request = record { method = c.request.method; path = c.request.path; body = c.request.body; who = sym sent.0 i; chain = sym sent.1 i } }
 
-call_step : (services : List DumpService) (setting : Setting) (done : List DumpEntry) (e : DumpEntry) (ns : List ℕ) (cs : List CallMade) (rs : List Response) (n : ℕ) (c : CallMade) (line : ℕ)
+call_step : (services : List DumpService) (setting : Setting) (programs : DumpPrograms) (done : List DumpEntry) (e : DumpEntry) (ns : List ℕ) (cs : List CallMade) (rs : List Response) (n : ℕ) (c : CallMade) (line : ℕ)
     → length rs ≡ length ns → AreOthers n (numbers_of done) → AreOthers n ns → IsSent setting.me e.request.chain c
-    → step services (at_part setting done e ns cs rs) line (Call (call_line n c)) ≡ Ok (services, at_part setting done e (ns ++ n ∷ []) (cs ++ c ∷ []) rs)
-call_step services setting done e ns cs rs n c line all others own sent =
+    → step services (at_part setting programs done e ns cs rs) line (Call (call_line n c)) ≡ Ok (services, at_part setting programs done e (ns ++ n ∷ []) (cs ++ c ∷ []) rs)
+call_step services setting programs done e ns cs rs n c line all others own sent =
     let here = part e ns cs rs in
     let twice = list_any (has_number n) done || has_number n here in
-    let next : Next = Ok (at_part setting done e (ns ++ n ∷ []) (cs ++ call_of setting.me e.request.chain (call_line n c) ∷ []) rs) in
+    let next : Next = Ok (at_part setting programs done e (ns ++ n ∷ []) (cs ++ call_of setting.me e.request.chain (call_line n c) ∷ []) rs) in
     ap (staying services)
     (passes (not (all_answered here)) (refusal.Shape line) (cond twice (Err (refusal.Twice line)) next) (not_so (all_answered here) (eq-eqb (length ns) (length rs) (sym all)))
     ∙ passes twice (refusal.Twice line) next (neither (list_any (has_number n) done) (has_number n here) (numbers_free n done others) (number_free n ns own)))
-    ∙ ap (λ (call : CallMade). Ok (services, at_part setting done e (ns ++ n ∷ []) (cs ++ call ∷ []) rs)) (call_again setting.me e.request.chain n c sent)
+    ∙ ap (λ (call : CallMade). Ok (services, at_part setting programs done e (ns ++ n ∷ []) (cs ++ call ∷ []) rs)) (call_again setting.me e.request.chain n c sent)
 
-answer_step : (services : List DumpService) (setting : Setting) (done : List DumpEntry) (e : DumpEntry) (ns : List ℕ) (cs : List CallMade) (rs : List Response) (r : Response) (line : ℕ)
-    → suc (length rs) ≡ length ns → step services (at_part setting done e ns cs rs) line (Answer r) ≡ Ok (services, at_part setting done e ns cs (rs ++ r ∷ []))
-answer_step services setting done e ns cs rs r line lacks =
+answer_step : (services : List DumpService) (setting : Setting) (programs : DumpPrograms) (done : List DumpEntry) (e : DumpEntry) (ns : List ℕ) (cs : List CallMade) (rs : List Response) (r : Response) (line : ℕ)
+    → suc (length rs) ≡ length ns → step services (at_part setting programs done e ns cs rs) line (Answer r) ≡ Ok (services, at_part setting programs done e ns cs (rs ++ r ∷ []))
+answer_step services setting programs done e ns cs rs r line lacks =
     let some : nat_eq (length ns) (length rs) ≡ false = no_by (nat_eq (length ns) (length rs)) (λ yes. absurd (omega (arith, lacks, eqb-true (length ns) (length rs) yes))) in
-    ap (staying services) (passes (all_answered (part e ns cs rs)) (refusal.Shape line) (Ok (at_part setting done e ns cs (rs ++ r ∷ []))) some)
+    ap (staying services) (passes (all_answered (part e ns cs rs)) (refusal.Shape line) (Ok (at_part setting programs done e ns cs (rs ++ r ∷ []))) some)
 
-same_part : (setting : Setting) (done : List DumpEntry) (e : DumpEntry) (ns ms : List ℕ) (cs ds : List CallMade) (rs qs : List Response) → ns ≡ ms → cs ≡ ds → rs ≡ qs
-    → at_part setting done e ns cs rs ≡ at_part setting done e ms ds qs
-same_part setting done e ns ms cs ds rs qs a b c = λ i. at_part setting done e (a i) (b i) (c i)
+same_part : (setting : Setting) (programs : DumpPrograms) (done : List DumpEntry) (e : DumpEntry) (ns ms : List ℕ) (cs ds : List CallMade) (rs qs : List Response) → ns ≡ ms → cs ≡ ds → rs ≡ qs
+    → at_part setting programs done e ns cs rs ≡ at_part setting programs done e ms ds qs
+same_part setting programs done e ns ms cs ds rs qs a b c = λ i. at_part setting programs done e (a i) (b i) (c i)
 
 -- the calls that are still to be told, behind those that are
-calls_lead : (services : List DumpService) (setting : Setting) (done : List DumpEntry) (e : DumpEntry) (todo : List ℕ) (ns0 : List ℕ) (cs0 : List CallMade) (rs0 : List Response) (ns : List ℕ) (cs : List CallMade) (rs : List Response)
+calls_lead : (services : List DumpService) (setting : Setting) (programs : DumpPrograms) (done : List DumpEntry) (e : DumpEntry) (todo : List ℕ) (ns0 : List ℕ) (cs0 : List CallMade) (rs0 : List Response) (ns : List ℕ) (cs : List CallMade) (rs : List Response)
     → length rs0 ≡ length ns0 → length cs ≡ length ns → length rs ≡ length ns → AllByRecursion (IsSent setting.me e.request.chain) cs → AreApart ((numbers_of done ++ ns0) ++ (ns ++ todo))
-    → Leads services (at_part setting done e ns0 cs0 rs0) (call_lines ns cs rs) services (at_part setting done e (ns0 ++ ns) (cs0 ++ cs) (rs0 ++ rs))
-calls_lead services setting done e todo ns0 cs0 rs0 [] [] [] so a b sent apart =
-    let L : Stage → Type 0 = λ s. Leads services (at_part setting done e ns0 cs0 rs0) [] services s in
-    subst L (same_part setting done e ns0 (ns0 ++ []) cs0 (cs0 ++ []) rs0 (rs0 ++ []) (sym (append-nil ns0)) (sym (append-nil cs0)) (sym (append-nil rs0))) (no_lines services (at_part setting done e ns0 cs0 rs0))
-calls_lead services setting done e todo ns0 cs0 rs0 [] (c ∷ cs) rs so a b sent apart = absurd (omega (arith, a))
-calls_lead services setting done e todo ns0 cs0 rs0 [] [] (r ∷ rs) so a b sent apart = absurd (omega (arith, b))
-calls_lead services setting done e todo ns0 cs0 rs0 (n ∷ ns) [] rs so a b sent apart = absurd (omega (arith, a))
-calls_lead services setting done e todo ns0 cs0 rs0 (n ∷ ns) (c ∷ cs) [] so a b sent apart = absurd (omega (arith, b))
-calls_lead services setting done e todo ns0 cs0 rs0 (n ∷ ns) (c ∷ cs) (r ∷ rs) so a b sent apart =
+    → Leads services (at_part setting programs done e ns0 cs0 rs0) (call_lines ns cs rs) services (at_part setting programs done e (ns0 ++ ns) (cs0 ++ cs) (rs0 ++ rs))
+calls_lead services setting programs done e todo ns0 cs0 rs0 [] [] [] so a b sent apart =
+    let L : Stage → Type 0 = λ s. Leads services (at_part setting programs done e ns0 cs0 rs0) [] services s in
+    subst L (same_part setting programs done e ns0 (ns0 ++ []) cs0 (cs0 ++ []) rs0 (rs0 ++ []) (sym (append-nil ns0)) (sym (append-nil cs0)) (sym (append-nil rs0))) (no_lines services (at_part setting programs done e ns0 cs0 rs0))
+calls_lead services setting programs done e todo ns0 cs0 rs0 [] (c ∷ cs) rs so a b sent apart = absurd (omega (arith, a))
+calls_lead services setting programs done e todo ns0 cs0 rs0 [] [] (r ∷ rs) so a b sent apart = absurd (omega (arith, b))
+calls_lead services setting programs done e todo ns0 cs0 rs0 (n ∷ ns) [] rs so a b sent apart = absurd (omega (arith, a))
+calls_lead services setting programs done e todo ns0 cs0 rs0 (n ∷ ns) (c ∷ cs) [] so a b sent apart = absurd (omega (arith, b))
+calls_lead services setting programs done e todo ns0 cs0 rs0 (n ∷ ns) (c ∷ cs) (r ∷ rs) so a b sent apart =
     let ns1 = ns0 ++ n ∷ [] in
     let cs1 = cs0 ++ c ∷ [] in
     let rs1 = rs0 ++ r ∷ [] in
@@ -252,69 +258,107 @@ calls_lead services setting done e todo ns0 cs0 rs0 (n ∷ ns) (c ∷ cs) (r ∷
     let others = apart_before (numbers_of done ++ ns0) n (ns ++ todo) apart in
     let apart1 : AreApart ((numbers_of done ++ ns1) ++ (ns ++ todo)) =
     subst AreApart (sym (append_assoc (numbers_of done ++ ns0) (n ∷ []) (ns ++ todo)) ∙ ap (λ (front : List ℕ). front ++ (ns ++ todo)) (append_assoc (numbers_of done) ns0 (n ∷ []))) apart in
-    let from = at_part setting done e ns0 cs0 rs0 in
-    let made = at_part setting done e ns1 cs1 rs0 in
-    let told = at_part setting done e ns1 cs1 rs1 in
-    let end = at_part setting done e (ns1 ++ ns) (cs1 ++ cs) (rs1 ++ rs) in
+    let from = at_part setting programs done e ns0 cs0 rs0 in
+    let made = at_part setting programs done e ns1 cs1 rs0 in
+    let told = at_part setting programs done e ns1 cs1 rs1 in
+    let end = at_part setting programs done e (ns1 ++ ns) (cs1 ++ cs) (rs1 ++ rs) in
     let first = one_line services from (Call (call_line n c)) services made
-    (λ line. call_step services setting done e ns0 cs0 rs0 n c line so (all_left (λ z. ¬ (z ≡ n)) (numbers_of done) ns0 others) (all_right (λ z. ¬ (z ≡ n)) (numbers_of done) ns0 others) sent.0) in
-    let second = one_line services made (Answer r) services told (λ line. answer_step services setting done e ns1 cs1 rs0 r line lacks) in
-    let rest = calls_lead services setting done e todo ns1 cs1 rs1 ns cs rs so1 x y sent.1 apart1 in
+    (λ line. call_step services setting programs done e ns0 cs0 rs0 n c line so (all_left (λ z. ¬ (z ≡ n)) (numbers_of done) ns0 others) (all_right (λ z. ¬ (z ≡ n)) (numbers_of done) ns0 others) sent.0) in
+    let second = one_line services made (Answer r) services told (λ line. answer_step services setting programs done e ns1 cs1 rs0 r line lacks) in
+    let rest = calls_lead services setting programs done e todo ns1 cs1 rs1 ns cs rs so1 x y sent.1 apart1 in
     let L : Stage → Type 0 = λ s. Leads services from (Call (call_line n c) ∷ Answer r ∷ call_lines ns cs rs) services s in
     subst L
-    (same_part setting done e (ns1 ++ ns) (ns0 ++ n ∷ ns) (cs1 ++ cs) (cs0 ++ c ∷ cs) (rs1 ++ rs) (rs0 ++ r ∷ rs) (append_assoc ns0 (n ∷ []) ns) (append_assoc cs0 (c ∷ []) cs) (append_assoc rs0 (r ∷ []) rs))
+    (same_part setting programs done e (ns1 ++ ns) (ns0 ++ n ∷ ns) (cs1 ++ cs) (cs0 ++ c ∷ cs) (rs1 ++ rs) (rs0 ++ r ∷ rs) (append_assoc ns0 (n ∷ []) ns) (append_assoc cs0 (c ∷ []) cs) (append_assoc rs0 (r ∷ []) rs))
     (then_lines services from (Call (call_line n c) ∷ []) services made (Answer r ∷ call_lines ns cs rs) services end first
     (then_lines services made (Answer r ∷ []) services told (call_lines ns cs rs) services end second rest))
 
 -- ---- entries
 
-abbrev within : Setting → List DumpEntry → List Cell → Stage
-within setting entries rows = Within (record { setting = setting; entries = entries; rows = rows })
+abbrev within : Setting → DumpPrograms → List DumpEntry → List Cell → Stage
+within setting programs entries rows = Within (record { setting = setting; programs = programs; entries = entries; rows = rows })
 
-entry_step : (services : List DumpService) (setting : Setting) (done : List DumpEntry) (e : DumpEntry) (line : ℕ) → is_entered (entry_line e) done ≡ false
-    → step services (within setting done []) line (Entry (entry_line e)) ≡ Ok (services, at_part setting done e [] [] [])
-entry_step services setting done e line free =
-    ap (staying services) (passes (is_entered (entry_line e) done) (refusal.Twice line) (Ok (at_part setting done e [] [] [])) free)
+-- an entry behind its line
+abbrev bare : DumpEntry → ℕ → List Route → DumpEntry
+bare e under program = record {
+  id = e.id;
+  origin = e.origin;
+  version = e.version;
+  wanted = e.wanted;
+  struck = e.struck;
+  inputs = e.inputs;
+  request = e.request;
+  under = under;
+  program = program;
+  numbers = [];
+  calls = [];
+  answers = [];
+  reply = None;
+}
 
-reply_step : (services : List DumpService) (setting : Setting) (done : List DumpEntry) (e : DumpEntry) (line : ℕ) → length e.answers ≡ length e.numbers
-    → step services (at_part setting done e e.numbers e.calls e.answers) line (Reply e.reply) ≡ Ok (services, within setting (done ++ e ∷ []) [])
-reply_step services setting done e line all =
+abbrev begun : Setting → DumpPrograms → List DumpEntry → DumpEntry → Running
+begun setting programs done e = record { setting = setting; programs = programs; entries = done; entry = bare e 1 programs.first }
+
+under_by : (services : List DumpService) (setting : Setting) (programs : DumpPrograms) (done : List DumpEntry) (e : DumpEntry) (b : Bool) → nat_eq e.under 1 ≡ b
+    → cond b (Some programs.first) (later_at e.under programs.later) ≡ Some e.program
+    → Leads services (Runs (begun setting programs done e)) (cond b [] (Under e.under ∷ [])) services (at_part setting programs done e [] [] [])
+under_by services setting programs done e true is under =
+    let number : 1 ≡ e.under = sym (eqb-true e.under 1 is) in
+    let program : programs.first ≡ e.program = cc in
+    let from : Stage = Runs (begun setting programs done e) in
+    let same : from ≡ at_part setting programs done e [] [] [] = λ i. Runs (record { setting = setting; programs = programs; entries = done; entry = bare e (number i) (program i) }) in
+    let L : Stage → Type 0 = λ s. Leads services from [] services s in
+    subst L same (no_lines services from)
+under_by services setting programs done e false is under =
+    one_line services (Runs (begun setting programs done e)) (Under e.under) services (at_part setting programs done e [] [] [])
+    (λ line. ap (λ (found : Option (List Route)). staying services (under_it (begun setting programs done e) line e.under found)) under)
+
+entry_step : (services : List DumpService) (setting : Setting) (programs : DumpPrograms) (done : List DumpEntry) (e : DumpEntry) (line : ℕ) → is_entered (entry_line e) done ≡ false
+    → step services (within setting programs done []) line (Entry (entry_line e)) ≡ Ok (services, Runs (begun setting programs done e))
+entry_step services setting programs done e line free =
+    ap (staying services) (passes (is_entered (entry_line e) done) (refusal.Twice line) (Ok (Runs (begun setting programs done e))) free)
+
+reply_step : (services : List DumpService) (setting : Setting) (programs : DumpPrograms) (done : List DumpEntry) (e : DumpEntry) (line : ℕ) → length e.answers ≡ length e.numbers
+    → step services (at_part setting programs done e e.numbers e.calls e.answers) line (Reply e.reply) ≡ Ok (services, within setting programs (done ++ e ∷ []) [])
+reply_step services setting programs done e line all =
     let here = part e e.numbers e.calls e.answers in
-    ap (staying services) (passes (not (all_answered here)) (refusal.Shape line) (Ok (within setting (done ++ e ∷ []) [])) (not_so (all_answered here) (eq-eqb (length e.numbers) (length e.answers) (sym all))))
+    ap (staying services) (passes (not (all_answered here)) (refusal.Shape line) (Ok (within setting programs (done ++ e ∷ []) [])) (not_so (all_answered here) (eq-eqb (length e.numbers) (length e.answers) (sym all))))
 
-entry_lead : (services : List DumpService) (setting : Setting) (done : List DumpEntry) (e : DumpEntry) (todo : List ℕ) (later : List (List ℕ × ℕ)) → IsWhole setting.me e
-    → AreOthers e.id (map (λ x. x.id) done) → AreApart (calls_behind done ++ (call_behind e.origin ++ later)) → AreApart (numbers_of done ++ (e.numbers ++ todo))
-    → Leads services (within setting done []) (entry_lines e) services (within setting (done ++ e ∷ []) [])
-entry_lead services setting done e todo later whole ids callers numbers =
+entry_lead : (services : List DumpService) (setting : Setting) (programs : DumpPrograms) (done : List DumpEntry) (e : DumpEntry) (todo : List ℕ) (later : List (List ℕ × ℕ)) → IsWhole setting.me e
+    → IsUnder programs e → AreOthers e.id (map (λ x. x.id) done) → AreApart (calls_behind done ++ (call_behind e.origin ++ later)) → AreApart (numbers_of done ++ (e.numbers ++ todo))
+    → Leads services (within setting programs done []) (entry_lines e) services (within setting programs (done ++ e ∷ []) [])
+entry_lead services setting programs done e todo later whole under ids callers numbers =
     let apart : AreApart ((numbers_of done ++ []) ++ (e.numbers ++ todo)) = subst AreApart (ap (λ (front : List ℕ). front ++ (e.numbers ++ todo)) (sym (append-nil (numbers_of done)))) numbers in
     let calls = call_lines e.numbers e.calls e.answers in
-    let from = within setting done [] in
-    let begun = at_part setting done e [] [] [] in
-    let told = at_part setting done e e.numbers e.calls e.answers in
-    let end = within setting (done ++ e ∷ []) [] in
-    let first = one_line services from (Entry (entry_line e)) services begun (λ line. entry_step services setting done e line (entry_free e done later ids callers)) in
-    let second = calls_lead services setting done e todo [] [] [] e.numbers e.calls e.answers refl whole.named whole.answered whole.sent apart in
-    let third = one_line services told (Reply e.reply) services end (λ line. reply_step services setting done e line whole.answered) in
-    then_lines services from (Entry (entry_line e) ∷ calls) services told (Reply e.reply ∷ []) services end
-    (then_lines services from (Entry (entry_line e) ∷ []) services begun calls services told first second) third
+    let from = within setting programs done [] in
+    let entered : Stage = Runs (begun setting programs done e) in
+    let ready = at_part setting programs done e [] [] [] in
+    let told = at_part setting programs done e e.numbers e.calls e.answers in
+    let end = within setting programs (done ++ e ∷ []) [] in
+    let first = one_line services from (Entry (entry_line e)) services entered (λ line. entry_step services setting programs done e line (entry_free e done later ids callers)) in
+    let second = under_by services setting programs done e (nat_eq e.under 1) refl under in
+    let third = calls_lead services setting programs done e todo [] [] [] e.numbers e.calls e.answers refl whole.named whole.answered whole.sent apart in
+    let fourth = one_line services told (Reply e.reply) services end (λ line. reply_step services setting programs done e line whole.answered) in
+    then_lines services from (Entry (entry_line e) ∷ (under_lines e.under ++ calls)) services told (Reply e.reply ∷ []) services end
+    (then_lines services from (Entry (entry_line e) ∷ []) services entered (under_lines e.under ++ calls) services told first
+    (then_lines services entered (under_lines e.under) services ready calls services told second third)) fourth
 
-entries_lead : (services : List DumpService) (setting : Setting) (done todo : List DumpEntry) → AllByRecursion (IsWhole setting.me) todo → AreApart (map (λ x. x.id) (done ++ todo))
-    → AreApart (calls_behind (done ++ todo)) → AreApart (numbers_of (done ++ todo)) → Leads services (within setting done []) (flat_map entry_lines todo) services (within setting (done ++ todo) [])
-entries_lead services setting done [] whole ids callers numbers =
-    let L : List DumpEntry → Type 0 = λ es. Leads services (within setting done []) [] services (within setting es []) in
-    subst L (sym (append-nil done)) (no_lines services (within setting done []))
-entries_lead services setting done (e ∷ todo) whole ids callers numbers =
+entries_lead : (services : List DumpService) (setting : Setting) (programs : DumpPrograms) (done todo : List DumpEntry) → AllByRecursion (IsWhole setting.me) todo → AllByRecursion (IsUnder programs) todo → AreApart (map (λ x. x.id) (done ++ todo))
+    → AreApart (calls_behind (done ++ todo)) → AreApart (numbers_of (done ++ todo)) → Leads services (within setting programs done []) (flat_map entry_lines todo) services (within setting programs (done ++ todo) [])
+entries_lead services setting programs done [] whole under ids callers numbers =
+    let L : List DumpEntry → Type 0 = λ es. Leads services (within setting programs done []) [] services (within setting programs es []) in
+    subst L (sym (append-nil done)) (no_lines services (within setting programs done []))
+entries_lead services setting programs done (e ∷ todo) whole under ids callers numbers =
     let again : (done ++ e ∷ []) ++ todo ≡ done ++ e ∷ todo = append_assoc done (e ∷ []) todo in
     let own = apart_before (map (λ x. x.id) done) e.id (map (λ x. x.id) todo) (subst AreApart (map-append (λ x. x.id) done (e ∷ todo)) ids) in
     let callers_here = subst AreApart (flat_map-append (λ x. call_behind x.origin) done (e ∷ todo)) callers in
     let numbers_here = subst AreApart (flat_map-append (λ x. x.numbers) done (e ∷ todo)) numbers in
-    let from = within setting done [] in
-    let next = within setting (done ++ e ∷ []) [] in
-    let first = entry_lead services setting done e (numbers_of todo) (calls_behind todo) whole.0 own callers_here numbers_here in
-    let rest = entries_lead services setting (done ++ e ∷ []) todo whole.1 (subst (λ (es : List DumpEntry). AreApart (map (λ x. x.id) es)) (sym again) ids)
+    let from = within setting programs done [] in
+    let next = within setting programs (done ++ e ∷ []) [] in
+    let first = entry_lead services setting programs done e (numbers_of todo) (calls_behind todo) whole.0 under.0 own callers_here numbers_here in
+    let rest = entries_lead services setting programs (done ++ e ∷ []) todo whole.1 under.1 (subst (λ (es : List DumpEntry). AreApart (map (λ x. x.id) es)) (sym again) ids)
     (subst (λ (es : List DumpEntry). AreApart (calls_behind es)) (sym again) callers) (subst (λ (es : List DumpEntry). AreApart (numbers_of es)) (sym again) numbers) in
-    let L : List DumpEntry → Type 0 = λ es. Leads services from (entry_lines e ++ flat_map entry_lines todo) services (within setting es []) in
-    subst L again (then_lines services from (entry_lines e) services next (flat_map entry_lines todo) services (within setting ((done ++ e ∷ []) ++ todo) []) first rest)
+    let L : List DumpEntry → Type 0 = λ es. Leads services from (entry_lines e ++ flat_map entry_lines todo) services (within setting programs es []) in
+    subst L again (then_lines services from (entry_lines e) services next (flat_map entry_lines todo) services (within setting programs ((done ++ e ∷ []) ++ todo) []) first rest)
 
 -- ---- rows
 
@@ -322,53 +366,76 @@ row_by : (b twice : Bool) (line : ℕ) (next : Next) → b ≡ true → cond b n
 row_by true twice line next h = refl
 row_by false twice line next h = absurd cc
 
-rows_lead : (services : List DumpService) (setting : Setting) (entries : List DumpEntry) (done todo : List Cell) → IsOrdered cell_place (done ++ todo)
-    → Leads services (within setting entries done) (map Row todo) services (within setting entries (done ++ todo))
-rows_lead services setting entries done [] ordered =
-    let L : List Cell → Type 0 = λ rows. Leads services (within setting entries done) [] services (within setting entries rows) in
-    subst L (sym (append-nil done)) (no_lines services (within setting entries done))
-rows_lead services setting entries done (c ∷ todo) ordered =
+rows_lead : (services : List DumpService) (setting : Setting) (programs : DumpPrograms) (entries : List DumpEntry) (done todo : List Cell) → IsOrdered cell_place (done ++ todo)
+    → Leads services (within setting programs entries done) (map Row todo) services (within setting programs entries (done ++ todo))
+rows_lead services setting programs entries done [] ordered =
+    let L : List Cell → Type 0 = λ rows. Leads services (within setting programs entries done) [] services (within setting programs entries rows) in
+    subst L (sym (append-nil done)) (no_lines services (within setting programs entries done))
+rows_lead services setting programs entries done (c ∷ todo) ordered =
     let again : (done ++ c ∷ []) ++ todo ≡ done ++ c ∷ todo = append_assoc done (c ∷ []) todo in
-    let from = within setting entries done in
-    let next = within setting entries (done ++ c ∷ []) in
+    let from = within setting programs entries done in
+    let next = within setting programs entries (done ++ c ∷ []) in
     let first = one_line services from (Row c) services next
     (λ line. ap (staying services) (row_by (is_behind done c) (is_kept c done) line (Ok next) (behind_so done c todo ordered))) in
-    let rest = rows_lead services setting entries (done ++ c ∷ []) todo (subst (IsOrdered cell_place) (sym again) ordered) in
-    let L : List Cell → Type 0 = λ rows. Leads services from (Row c ∷ map Row todo) services (within setting entries rows) in
-    subst L again (then_lines services from (Row c ∷ []) services next (map Row todo) services (within setting entries ((done ++ c ∷ []) ++ todo)) first rest)
+    let rest = rows_lead services setting programs entries (done ++ c ∷ []) todo (subst (IsOrdered cell_place) (sym again) ordered) in
+    let L : List Cell → Type 0 = λ rows. Leads services from (Row c ∷ map Row todo) services (within setting programs entries rows) in
+    subst L again (then_lines services from (Row c ∷ []) services next (map Row todo) services (within setting programs entries ((done ++ c ∷ []) ++ todo)) first rest)
 
 -- ---- services
 
 setting_again : (s : Setting) → s.weight ≡ 0 → ◌≡◌ {A = Setting} (record { me = s.me; peers = s.peers; program = s.program; weight = 0; alone = s.alone }) s
 setting_again s h = λ i. record { me = s.me; peers = s.peers; program = s.program; weight = sym h i; alone = s.alone }
 
-head_lead : (services : List DumpService) (s : Setting) → s.weight ≡ 0 → AreOthers s.me (map service_name services)
-    → Leads services Between (head_lines s) services (within s [] [])
-head_lead services s weight others =
+-- the programs that are still to be told, behind those that are
+programs_lead : (services : List DumpService) (setting : Setting) (first : List Route) (done todo : List (List Route))
+    → Leads services (within setting (record { first = first; later = done }) [] []) (map Program todo) services (within setting (record { first = first; later = done ++ todo }) [] [])
+programs_lead services setting first done [] =
+    let from = within setting (record { first = first; later = done }) [] [] in
+    let L : List (List Route) → Type 0 = λ later. Leads services from [] services (within setting (record { first = first; later = later }) [] []) in
+    subst L (sym (append-nil done)) (no_lines services from)
+programs_lead services setting first done (p ∷ todo) =
+    let again : (done ++ p ∷ []) ++ todo ≡ done ++ p ∷ todo = append_assoc done (p ∷ []) todo in
+    let from = within setting (record { first = first; later = done }) [] [] in
+    let next = within setting (record { first = first; later = done ++ p ∷ [] }) [] [] in
+    let this = one_line services from (Program p) services next (λ line. refl) in
+    let rest = programs_lead services setting first (done ++ p ∷ []) todo in
+    let L : List (List Route) → Type 0 = λ later. Leads services from (Program p ∷ map Program todo) services (within setting (record { first = first; later = later }) [] []) in
+    subst L again (then_lines services from (Program p ∷ []) services next (map Program todo) services (within setting (record { first = first; later = (done ++ p ∷ []) ++ todo }) [] []) this rest)
+
+head_lead : (services : List DumpService) (s : Setting) (programs : DumpPrograms) → s.weight ≡ 0 → programs.first ≡ s.program → AreOthers s.me (map service_name services)
+    → Leads services Between (head_lines s programs) services (within s programs [] [])
+head_lead services s programs weight own others =
     let head : Stage = Headed (record { me = s.me; peers = s.peers; alone = s.alone }) in
-    let end = within s [] [] in
+    let one = within s (record { first = s.program; later = [] }) [] [] in
+    let end = within s (record { first = s.program; later = programs.later }) [] [] in
+    let later = map Program programs.later in
     let first = one_line services Between (Service s.me) services (Named s.me)
     (λ line. ap (staying services) (passes (is_named s.me services) (refusal.Twice line) (Ok (Named s.me)) (name_free s.me services others))) in
     let second = one_line services (Named s.me) (Peers s.peers) services head
     (λ line. ap (staying services) (head_free s.me s.peers line (list_any (same_text s.me) s.peers) refl s.alone)) in
-    let third = one_line services head (Program s.program) services end
-    (λ line. ap (λ (x : Setting). Ok (services, within x [] [])) (setting_again s weight)) in
-    then_lines services Between (Service s.me ∷ []) services (Named s.me) (Peers s.peers ∷ Program s.program ∷ []) services end first
-    (then_lines services (Named s.me) (Peers s.peers ∷ []) services head (Program s.program ∷ []) services end second third)
+    let third = one_line services head (Program s.program) services one
+    (λ line. ap (λ (x : Setting). Ok (services, within x (record { first = s.program; later = [] }) [] [])) (setting_again s weight)) in
+    let fourth = programs_lead services s s.program [] programs.later in
+    let L : List Route → Type 0 = λ first. Leads services Between (head_lines s programs) services (within s (record { first = first; later = programs.later }) [] []) in
+    subst L (sym own)
+    (then_lines services Between (Service s.me ∷ []) services (Named s.me) (Peers s.peers ∷ Program s.program ∷ later) services end first
+    (then_lines services (Named s.me) (Peers s.peers ∷ []) services head (Program s.program ∷ later) services end second
+    (then_lines services head (Program s.program ∷ []) services one later services end third fourth)))
 
 service_lead : (services : List DumpService) (s : DumpService) → IsKept s → AreOthers s.setting.me (map service_name services)
     → Leads services Between (service_lines s) (services ++ s ∷ []) Between
 service_lead services s kept others =
     let entries = flat_map entry_lines s.entries in
     let rows = map Row s.rows in
-    let head = within s.setting [] [] in
-    let told = within s.setting s.entries [] in
-    let first = head_lead services s.setting kept.weight others in
-    let second = entries_lead services s.setting [] s.entries kept.entries kept.ids kept.callers kept.numbers in
-    let third = rows_lead services s.setting s.entries [] s.rows kept.rows in
+    let front = head_lines s.setting s.programs in
+    let head = within s.setting s.programs [] [] in
+    let told = within s.setting s.programs s.entries [] in
+    let first = head_lead services s.setting s.programs kept.weight kept.first others in
+    let second = entries_lead services s.setting s.programs [] s.entries kept.entries kept.under kept.ids kept.callers kept.numbers in
+    let third = rows_lead services s.setting s.programs s.entries [] s.rows kept.rows in
     let fourth = one_line services (Within s) End (services ++ s ∷ []) Between (λ line. refl) in
-    then_lines services Between (head_lines s.setting ++ (entries ++ rows)) services (Within s) (End ∷ []) (services ++ s ∷ []) Between
-    (then_lines services Between (head_lines s.setting) services head (entries ++ rows) services (Within s) first (then_lines services head entries services told rows services (Within s) second third)) fourth
+    then_lines services Between (front ++ (entries ++ rows)) services (Within s) (End ∷ []) (services ++ s ∷ []) Between
+    (then_lines services Between front services head (entries ++ rows) services (Within s) first (then_lines services head entries services told rows services (Within s) second third)) fourth
 
 services_lead : (before todo : List DumpService) → AllByRecursion IsKept todo → AreApart (map service_name (before ++ todo)) → Leads before Between (dump_lines todo) (before ++ todo) Between
 services_lead before [] kept apart =

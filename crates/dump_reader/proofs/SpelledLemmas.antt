@@ -1,20 +1,24 @@
 -- What is read is what the lines say.
-use Rattle.std.proofs.Common.{◌≡◌, ◌⊎◌, ℕ, ◌+◌, suc, Bool, true, false, cond, not, List, [], ◌∷◌, ◌++◌, Option, Result, Ok, Err, nat_eq, nat_lt, length, map, inl, inr, refl, sym, ap, ◌∙◌, subst, append_assoc, append-nil, length-append, eq-eqb, eqb-true, ◌||◌, arith}
+use Rattle.std.proofs.Common.{◌≡◌, ◌⊎◌, ℕ, ◌+◌, zero, suc, Bool, true, false, cond, not, List, [], ◌∷◌, ◌++◌, Option, Some, None, Result, Ok, Err, nat_eq, nat_lt, length, map, inl, inr, refl, sym, ap, ◌∙◌, subst, append_assoc, append-nil, length-append, eq-eqb, eqb-true, ◌||◌, arith}
 use Rattle.std.specs.List.{flat_map, list_any}
+use Rattle.std.proofs.lemmas.Bool.{and_parts}
+use Rattle.std.proofs.lemmas.List.{map-append}
 use Rattle.lang_base.specs.Texts.{same_text}
+use Rattle.lang_core.specs.HandedOn.{Route}
 use Rattle.lang_core.specs.declared.cells.Cell.{Cell}
 use Rattle.lang_core.specs.declared.request.Response.{Response}
 use Rattle.lang_core.specs.declared.trace.CallMade.{CallMade}
 use Rattle.dump_tables.specs.Indexed.{has_number}
+use Rattle.dump_tables.specs.Programs.{later_at, with_later}
 use Rattle.dump_tables.specs.declared.dump.DumpEntry.{DumpEntry}
 use Rattle.dump_tables.specs.declared.dump.DumpService.{DumpService}
 use Rattle.dump_words.specs.Lines.{Read, line_at}
 use Rattle.dump_words.specs.declared.line.CallLine.{CallLine}
 use Rattle.dump_words.specs.declared.line.EntryLine.{EntryLine}
 use Rattle.dump_words.specs.declared.line.Line.{Line}
-use Rattle.dump_words.specs.declared.line.Line.TheVariants.{Service, Peers, Program, Entry, Call, Answer, Reply, Row, End}
-use Rattle.dump_reader.specs.Reading.{Next, Stepped, all_answered, and_then, at_end, begun, call_of, consuming, entry_of, head_by, head_of, headed, is_behind, is_entered, is_kept, is_named, lines_of, prepared, read_of, replying, run_on, running_as, staying, step, step_read, with_answer, with_call, with_entry, with_lines, with_made, with_reply, with_row}
-use Rattle.dump_reader.specs.Spelled.{Spells, begun_lines, call_line, call_lines, dump_lines, entry_line, entry_lines, head_lines, inner_lines, says, service_lines}
+use Rattle.dump_words.specs.declared.line.Line.TheVariants.{Service, Peers, Program, Entry, Under, Call, Answer, Reply, Row, End}
+use Rattle.dump_reader.specs.Reading.{Next, Stepped, all_answered, and_then, at_end, begun, call_of, consuming, entry_of, head_by, head_of, headed, is_bare, is_behind, is_empty, is_entered, is_kept, is_named, lines_of, prepared, put_under, read_of, replying, run_on, running_as, service_of, staying, step, step_read, under_it, with_answer, with_call, with_entry, with_lines, with_made, with_next_program, with_reply, with_row, with_under}
+use Rattle.dump_reader.specs.Spelled.{Spells, begun_lines, call_line, call_lines, dump_lines, entry_line, entry_lines, head_lines, inner_lines, says, service_lines, under_lines}
 use Rattle.dump_reader.specs.declared.refused.DumpRefused.{DumpRefused}
 use Rattle.dump_reader.specs.declared.refused.DumpRefused.TheVariants as refusal
 use Rattle.dump_reader.specs.declared.stage.Head.{Head}
@@ -29,7 +33,7 @@ stage_lines Between = []
 stage_lines (Named me) = Service me ∷ []
 stage_lines (Headed h) = Service h.me ∷ Peers h.peers ∷ []
 stage_lines (Within s) = inner_lines s
-stage_lines (Runs r) = head_lines r.setting ++ (flat_map entry_lines r.entries ++ begun_lines r.entry)
+stage_lines (Runs r) = head_lines r.setting r.programs ++ (flat_map entry_lines r.entries ++ begun_lines r.entry)
 
 -- each call has its name, and its answer but for the last
 pub record Fits (e : DumpEntry) : Type 0 where
@@ -107,6 +111,7 @@ begun_adds services n (Service name) next h =
 begun_adds services n (Peers x) next h = absurd cc
 begun_adds services n (Program x) next h = absurd cc
 begun_adds services n (Entry x) next h = absurd cc
+begun_adds services n (Under x) next h = absurd cc
 begun_adds services n (Call x) next h = absurd cc
 begun_adds services n (Answer x) next h = absurd cc
 begun_adds services n (Reply x) next h = absurd cc
@@ -122,6 +127,7 @@ headed_adds me n (Peers peers) next h = head_adds me peers n (list_any (same_tex
 headed_adds me n (Service x) next h = absurd cc
 headed_adds me n (Program x) next h = absurd cc
 headed_adds me n (Entry x) next h = absurd cc
+headed_adds me n (Under x) next h = absurd cc
 headed_adds me n (Call x) next h = absurd cc
 headed_adds me n (Answer x) next h = absurd cc
 headed_adds me n (Reply x) next h = absurd cc
@@ -130,28 +136,56 @@ headed_adds me n End next h = absurd cc
 
 prepared_adds : (h : Head) (n : ℕ) (line : Line) (next : Stage) → prepared h n line ≡ Ok next → Adds (Headed h) line next
 prepared_adds head n (Program program) next h =
-    let s : DumpService = record { setting = record { me = head.me; peers = head.peers; program = program; weight = 0; alone = head.alone }; entries = []; rows = [] } in
-    adds_it (Headed head) (Program program) (Within s) next (record { lines = refl; fits = tt }) h
+    adds_it (Headed head) (Program program) (Within (service_of head program)) next (record { lines = refl; fits = tt }) h
 prepared_adds head n (Service x) next h = absurd cc
 prepared_adds head n (Peers x) next h = absurd cc
 prepared_adds head n (Entry x) next h = absurd cc
+prepared_adds head n (Under x) next h = absurd cc
 prepared_adds head n (Call x) next h = absurd cc
 prepared_adds head n (Answer x) next h = absurd cc
 prepared_adds head n (Reply x) next h = absurd cc
 prepared_adds head n (Row x) next h = absurd cc
 prepared_adds head n End next h = absurd cc
 
-no_rows : (rows : List Cell) → not (nat_eq (length rows) 0) ≡ false → rows ≡ []
-no_rows [] h = refl
-no_rows (r ∷ rows) h = absurd (omega (arith, eqb-true (length (r ∷ rows)) 0 (un_not (nat_eq (length (r ∷ rows)) 0) h)))
+pub none_so : {X : Type 0} (xs : List X) → nat_eq (length xs) 0 ≡ true → xs ≡ []
+none_so [] h = refl
+none_so (x ∷ xs) h = absurd (omega (arith, eqb-true (length (x ∷ xs)) 0 h))
+
+pub where_so : (b : Bool) (this : Next) (why : DumpRefused) (next : Stage) → cond b this (Err why) ≡ Ok next → (b ≡ true) × (this ≡ Ok next)
+where_so true this why next h = (refl, h)
+where_so false this why next h = absurd cc
+
+-- one program more
+head_more : (s : DumpService) (program : List Route) → head_lines s.setting (with_later s.programs program) ≡ head_lines s.setting s.programs ++ Program program ∷ []
+head_more s program =
+    ap (λ (programs : List Line). Service s.setting.me ∷ Peers s.setting.peers ∷ Program s.setting.program ∷ programs) (map-append Program s.programs.later (program ∷ []))
+
+program_adds : (s : DumpService) (n : ℕ) (program : List Route) (next : Stage) → with_next_program s n program ≡ Ok next → Adds (Within s) (Program program) next
+program_adds s n program next h =
+    let more : DumpService = record { setting = s.setting; programs = with_later s.programs program; entries = s.entries; rows = s.rows } in
+    let first = where_so (is_empty s) (Ok (Within more)) (refusal.Shape n) next h in
+    let parts = and_parts (nat_eq (length s.entries) 0) (nat_eq (length s.rows) 0) first.0 in
+    let front = head_lines s.setting s.programs in
+    let front_now = head_lines s.setting more.programs in
+    let told = flat_map entry_lines s.entries ++ map Row s.rows in
+    let none : told ≡ [] = ap (λ (es : List DumpEntry). flat_map entry_lines es ++ map Row s.rows) (none_so s.entries parts.0) ∙ ap (λ (rows : List Cell). map Row rows) (none_so s.rows parts.1) in
+    adds_it (Within s) (Program program) (Within more) next
+    (record {
+      lines = ap (λ (rest : List Line). front_now ++ rest) none
+          ∙ append-nil front_now
+          ∙ head_more s program
+          ∙ ap (λ (lines : List Line). lines ++ Program program ∷ []) (sym (append-nil front))
+          ∙ ap (λ (rest : List Line). (front ++ rest) ++ Program program ∷ []) (sym none);
+      fits = tt;
+    }) first.1
 
 entry_adds : (s : DumpService) (n : ℕ) (line : EntryLine) (next : Stage) → with_entry s n line ≡ Ok next → Adds (Within s) (Entry line) next
 entry_adds s n line next h =
-    let r : Running = record { setting = s.setting; entries = s.entries; entry = entry_of line } in
+    let r : Running = record { setting = s.setting; programs = s.programs; entries = s.entries; entry = entry_of s.programs.first line } in
     let first = unless (not (nat_eq (length s.rows) 0)) (refusal.Shape n) (cond (is_entered line s.entries) (Err (refusal.Twice n)) (Ok (Runs r))) next h in
     let second = unless (is_entered line s.entries) (refusal.Twice n) (Ok (Runs r)) next first.1 in
-    let none = no_rows s.rows first.0 in
-    let front = head_lines s.setting in
+    let none = none_so s.rows (un_not (nat_eq (length s.rows) 0) first.0) in
+    let front = head_lines s.setting s.programs in
     let entries = flat_map entry_lines s.entries in
     adds_it (Within s) (Entry line) (Runs r) next
     (record {
@@ -160,9 +194,9 @@ entry_adds s n line next h =
       fits = record { named = refl; answered = inl refl };
     }) second.1
 
-behind_adds : (s : DumpService) (c : Cell) → Adds (Within s) (Row c) (Within (record { setting = s.setting; entries = s.entries; rows = s.rows ++ c ∷ [] }))
+behind_adds : (s : DumpService) (c : Cell) → Adds (Within s) (Row c) (Within (record { setting = s.setting; programs = s.programs; entries = s.entries; rows = s.rows ++ c ∷ [] }))
 behind_adds s c =
-    let front = head_lines s.setting in
+    let front = head_lines s.setting s.programs in
     let entries = flat_map entry_lines s.entries in
     record {
       lines = ap (λ (rows : List Line). front ++ (entries ++ rows)) (rows_more s.rows c) ∙ two_more front entries (map Row s.rows) (Row c);
@@ -170,10 +204,10 @@ behind_adds s c =
     }
 
 row_by : (b twice : Bool) (s : DumpService) (n : ℕ) (c : Cell) (next : Stage)
-    → cond b (Ok (Within (record { setting = s.setting; entries = s.entries; rows = s.rows ++ c ∷ [] }))) (cond twice (Err (refusal.Twice n)) (Err (refusal.Rows n))) ≡ Ok next
+    → cond b (Ok (Within (record { setting = s.setting; programs = s.programs; entries = s.entries; rows = s.rows ++ c ∷ [] }))) (cond twice (Err (refusal.Twice n)) (Err (refusal.Rows n))) ≡ Ok next
     → Adds (Within s) (Row c) next
 row_by true twice s n c next h =
-    adds_it (Within s) (Row c) (Within (record { setting = s.setting; entries = s.entries; rows = s.rows ++ c ∷ [] })) next (behind_adds s c) h
+    adds_it (Within s) (Row c) (Within (record { setting = s.setting; programs = s.programs; entries = s.entries; rows = s.rows ++ c ∷ [] })) next (behind_adds s c) h
 row_by false true s n c next h = absurd cc
 row_by false false s n c next h = absurd cc
 
@@ -186,6 +220,50 @@ one_lacks e fits h = elim fits.answered [
   | inr lacks ↦ lacks
 ]
 
+-- the program of an entry of which no call is told
+no_call_lines : (cs : List CallMade) (rs : List Response) → call_lines [] cs rs ≡ []
+no_call_lines [] [] = refl
+no_call_lines [] (r ∷ rs) = refl
+no_call_lines (c ∷ cs) [] = refl
+no_call_lines (c ∷ cs) (r ∷ rs) = refl
+
+pub not_first : (number : ℕ) (later : List (List Route)) (program : List Route) → later_at number later ≡ Some program → nat_eq number 1 ≡ false
+not_first zero later program h = absurd cc
+not_first (suc zero) later program h = absurd cc
+not_first (suc (suc n)) later program h = refl
+
+under_so : (r : Running) (n number : ℕ) (found : Option (List Route)) (next : Stage) → later_at number r.programs.later ≡ found → Fits r.entry → is_bare r.entry ≡ true
+    → under_it r n number found ≡ Ok next → Adds (Runs r) (Under number) next
+under_so r n number None next is fits bare h = absurd cc
+under_so r n number (Some program) next is fits bare h =
+    let e = r.entry in
+    let parts = and_parts (nat_eq e.under 1) (nat_eq (length e.numbers) 0) bare in
+    let calls = call_lines e.numbers e.calls e.answers in
+    let none : calls ≡ [] = ap (λ (ns : List ℕ). call_lines ns e.calls e.answers) (none_so e.numbers parts.1) ∙ no_call_lines e.calls e.answers in
+    let other : under_lines number ≡ Under number ∷ [] = ap (λ (b : Bool). cond b [] (Under number ∷ [])) (not_first number r.programs.later program is) in
+    let first : under_lines e.under ≡ [] = ap (λ (b : Bool). cond b [] (Under e.under ∷ [])) parts.0 in
+    let front = head_lines r.setting r.programs in
+    let entries = flat_map entry_lines r.entries in
+    adds_it (Runs r) (Under number) (running_as r (put_under e number program)) next
+    (record {
+      lines = ap (λ (under : List Line). front ++ (entries ++ (Entry (entry_line e) ∷ (under ++ calls)))) other
+          ∙ ap (λ (rest : List Line). front ++ (entries ++ (Entry (entry_line e) ∷ Under number ∷ rest))) none
+          ∙ two_more front entries (Entry (entry_line e) ∷ []) (Under number)
+          ∙ ap (λ (rest : List Line). (front ++ (entries ++ (Entry (entry_line e) ∷ rest))) ++ Under number ∷ []) (sym none)
+          ∙ ap (λ (under : List Line). (front ++ (entries ++ (Entry (entry_line e) ∷ (under ++ calls)))) ++ Under number ∷ []) (sym first);
+      fits = record { named = fits.named; answered = fits.answered };
+    }) h
+
+under_adds : (r : Running) (n number : ℕ) (next : Stage) → Fits r.entry → with_under r n number ≡ Ok next → Adds (Runs r) (Under number) next
+under_adds r n number next fits h =
+    let found = later_at number r.programs.later in
+    let first = where_so (is_bare r.entry) (under_it r n number found) (refusal.Shape n) next h in
+    under_so r n number found next refl fits first.0 first.1
+
+-- with a line behind the calls of an entry
+behind_under : (under calls more : List Line) (line : Line) → more ≡ calls ++ line ∷ [] → under ++ more ≡ (under ++ calls) ++ line ∷ []
+behind_under under calls more line is = ap (λ (rest : List Line). under ++ rest) is ∙ sym (append_assoc under calls (line ∷ []))
+
 call_adds : (r : Running) (n : ℕ) (c : CallLine) (next : Stage) → Fits r.entry → with_call r n c ≡ Ok next → Adds (Runs r) (Call c) next
 call_adds r n c next fits h =
     let e = r.entry in
@@ -195,11 +273,12 @@ call_adds r n c next fits h =
     let first = unless (not (all_answered e)) (refusal.Shape n) (cond twice (Err (refusal.Twice n)) (Ok (running_as r made))) next h in
     let second = unless twice (refusal.Twice n) (Ok (running_as r made)) next first.1 in
     let all = all_are e first.0 in
-    let front = head_lines r.setting in
+    let front = head_lines r.setting r.programs in
     let entries = flat_map entry_lines r.entries in
     adds_it (Runs r) (Call c) (running_as r made) next
     (record {
-      lines = ap (λ (calls : List Line). front ++ (entries ++ (Entry (entry_line e) ∷ calls))) (call_more e.numbers e.calls e.answers c.number call fits.named all)
+      lines = ap (λ (calls : List Line). front ++ (entries ++ (Entry (entry_line e) ∷ calls)))
+          (behind_under (under_lines e.under) (call_lines e.numbers e.calls e.answers) (call_lines made.numbers made.calls e.answers) (Call c) (call_more e.numbers e.calls e.answers c.number call fits.named all))
           ∙ two_more front entries (begun_lines e) (Call c);
       fits = record {
         named = omega (arith, fits.named, length-append e.calls (call ∷ []), length-append e.numbers (c.number ∷ []));
@@ -213,11 +292,12 @@ answer_adds r n answer next fits h =
     let more = consuming e answer in
     let first = unless (all_answered e) (refusal.Shape n) (Ok (running_as r more)) next h in
     let lacks = one_lacks e fits first.0 in
-    let front = head_lines r.setting in
+    let front = head_lines r.setting r.programs in
     let entries = flat_map entry_lines r.entries in
     adds_it (Runs r) (Answer answer) (running_as r more) next
     (record {
-      lines = ap (λ (calls : List Line). front ++ (entries ++ (Entry (entry_line e) ∷ calls))) (answer_more e.numbers e.calls e.answers answer fits.named lacks)
+      lines = ap (λ (calls : List Line). front ++ (entries ++ (Entry (entry_line e) ∷ calls)))
+          (behind_under (under_lines e.under) (call_lines e.numbers e.calls e.answers) (call_lines e.numbers e.calls more.answers) (Answer answer) (answer_more e.numbers e.calls e.answers answer fits.named lacks))
           ∙ two_more front entries (begun_lines e) (Answer answer);
       fits = record { named = fits.named; answered = inl (omega (arith, lacks, length-append e.answers (answer ∷ []))) };
     }) first.1
@@ -225,9 +305,9 @@ answer_adds r n answer next fits h =
 reply_adds : (r : Running) (n : ℕ) (reply : Option Response) (next : Stage) → with_reply r n reply ≡ Ok next → Adds (Runs r) (Reply reply) next
 reply_adds r n reply next h =
     let e = replying r.entry reply in
-    let s : DumpService = record { setting = r.setting; entries = r.entries ++ e ∷ []; rows = [] } in
+    let s : DumpService = record { setting = r.setting; programs = r.programs; entries = r.entries ++ e ∷ []; rows = [] } in
     let first = unless (not (all_answered r.entry)) (refusal.Shape n) (Ok (Within s)) next h in
-    let front = head_lines r.setting in
+    let front = head_lines r.setting r.programs in
     let entries = flat_map entry_lines r.entries in
     adds_it (Runs r) (Reply reply) (Within s) next
     (record {
@@ -237,6 +317,7 @@ reply_adds r n reply next h =
     }) first.1
 
 run_adds : (r : Running) (n : ℕ) (line : Line) (next : Stage) → Fits r.entry → run_on r n line ≡ Ok next → Adds (Runs r) line next
+run_adds r n (Under number) next fits h = under_adds r n number next fits h
 run_adds r n (Call c) next fits h = call_adds r n c next fits h
 run_adds r n (Answer answer) next fits h = answer_adds r n answer next fits h
 run_adds r n (Reply reply) next fits h = reply_adds r n reply next h
@@ -276,13 +357,15 @@ pub step_adds : (services : List DumpService) (stage : Stage) (n : ℕ) (line : 
 step_adds services Between n line next fits h = stayed services Between line (begun services n line) next (λ to e. begun_adds services n line to e) h
 step_adds services (Named me) n line next fits h = stayed services (Named me) line (headed me n line) next (λ to e. headed_adds me n line to e) h
 step_adds services (Headed head) n line next fits h = stayed services (Headed head) line (prepared head n line) next (λ to e. prepared_adds head n line to e) h
+step_adds services (Within s) n (Program program) next fits h =
+    stayed services (Within s) (Program program) (with_next_program s n program) next (λ to e. program_adds s n program to e) h
 step_adds services (Within s) n (Entry line) next fits h = stayed services (Within s) (Entry line) (with_entry s n line) next (λ to e. entry_adds s n line to e) h
 step_adds services (Within s) n (Row c) next fits h =
     stayed services (Within s) (Row c) (with_row s n c) next (λ to e. row_by (is_behind s.rows c) (is_kept c s.rows) s n c to e) h
 step_adds services (Within s) n End next fits h = ends_it services s next h
 step_adds services (Within s) n (Service x) next fits h = absurd cc
 step_adds services (Within s) n (Peers x) next fits h = absurd cc
-step_adds services (Within s) n (Program x) next fits h = absurd cc
+step_adds services (Within s) n (Under x) next fits h = absurd cc
 step_adds services (Within s) n (Call x) next fits h = absurd cc
 step_adds services (Within s) n (Answer x) next fits h = absurd cc
 step_adds services (Within s) n (Reply x) next fits h = absurd cc
