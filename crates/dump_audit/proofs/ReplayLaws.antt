@@ -17,6 +17,7 @@ use Rattle.lang_core.specs.declared.setting.Setting.{Setting}
 use Rattle.lang_core.specs.declared.trace.CallMade.{CallMade}
 use Rattle.lang_core.specs.declared.trace.Trace.{Trace}
 use Rattle.handler_run.specs.Handlers.{run_of}
+use Rattle.handler_run.specs.HandedOn.{with_program}
 use Rattle.handler_run.specs.declared.state.Ran.{Ran}
 use Rattle.handler_run.specs.declared.state.Ran.TheVariants.{Done, Wants}
 use Rattle.execution.specs.Executions.{Act, Deed, IsEmptyIfDead, IsPlayed, IsReplay, Replays, deed_of}
@@ -73,7 +74,7 @@ record PlaysOn (setting : Setting) (rows : List Cell) (e : DumpEntry) (next : Li
 played : (setting : Setting) (rows : List Cell) (e : DumpEntry) (t : Trace) → trace_of setting rows e ≡ Some t → same_calls e t ≡ true
     → is_response e.reply t.response ≡ true → IsPlayed setting rows (act_of e) t
 played setting rows e t is same reply =
-    let ran = run_of setting e.request e.inputs e.answers rows in
+    let ran = run_of (with_program e.program setting) e.request e.inputs e.answers rows in
     let parts = and_parts (is_told e) (equal (coded_list call_made.the_row.coded) e.calls t.calls && equal (coded_list response.the_row.coded) e.answers t.answers) same in
     let counts = and_parts (nat_eq (length e.numbers) (length e.calls)) (nat_eq (length e.answers) (length e.calls)) parts.0 in
     let lists = and_parts (equal (coded_list call_made.the_row.coded) e.calls t.calls) (equal (coded_list response.the_row.coded) e.answers t.answers) parts.1 in
@@ -142,7 +143,7 @@ deed_parts e (Some r) t h =
 no_fault : (setting : Setting) (rows : List Cell) (e : DumpEntry) (t : Trace) → IsPlayed setting rows (act_of e) t → after setting rows e ≡ Ok (apply rows t.writes)
 no_fault setting rows e t p =
     let parts = deed_parts e e.reply t p.did in
-    let is : trace_of setting rows e ≡ Some t = alive_so (is_alive e) (run_of setting e.request e.inputs e.answers rows) t p.live p.dead in
+    let is : trace_of setting rows e ≡ Some t = alive_so (is_alive e) (run_of (with_program e.program setting) e.request e.inputs e.answers rows) t p.live p.dead in
     let numbers = eq-eqb (length e.numbers) (length e.calls) (p.named ∙ ap length (sym parts.0)) in
     let answers = eq-eqb (length e.answers) (length e.calls) (p.answered ∙ ap length (sym parts.0)) in
     let counts = and_from (nat_eq (length e.numbers) (length e.calls)) (nat_eq (length e.answers) (length e.calls)) numbers answers in

@@ -19,6 +19,7 @@ act_of e = record {
   struck = e.struck;
   request = e.request;
   inputs = e.inputs;
+  program = e.program;
   numbers = e.numbers;
   answers = e.answers;
   did = option_map (deed e.calls) e.reply;

@@ -20,6 +20,7 @@ use Rattle.lang_core.specs.declared.setting.Setting.{Setting}
 use Rattle.lang_core.specs.declared.trace.CallMade.{CallMade}
 use Rattle.lang_core.specs.declared.trace.Trace.{Trace}
 use Rattle.handler_run.specs.Handlers.{run_of}
+use Rattle.handler_run.specs.HandedOn.{with_program}
 use Rattle.handler_run.specs.declared.state.Ran.{Ran}
 use Rattle.handler_run.specs.declared.state.Ran.TheVariants.{Done, Wants}
 use Rattle.dump_tables.specs.declared.dump.DumpEntry.{DumpEntry}
@@ -40,9 +41,9 @@ abbrev pub ended : Ran → Option Trace
 ended (Done t) = Some t
 ended (Wants slot calls call) = None
 
--- what an entry does on these rows with the answers that it consumed: its run, or nothing where it doesn't survive
+-- what an entry does on these rows with the answers that it consumed: the run of its own program, or nothing where it doesn't survive
 abbrev pub trace_of : Setting → List Cell → DumpEntry → Option Trace
-trace_of setting rows e = if is_alive e then ended (run_of setting e.request e.inputs e.answers rows) else Some dead_trace
+trace_of setting rows e = if is_alive e then ended (run_of (with_program e.program setting) e.request e.inputs e.answers rows) else Some dead_trace
 
 -- each call of the entry has its name and its answer
 abbrev pub is_told : DumpEntry → Bool

@@ -54,6 +54,7 @@ fn trace_of(
     let ran = run(
         alloc,
         setting,
+        entry.program.get(),
         &entry.request,
         &entry.inputs,
         &entry.answers,

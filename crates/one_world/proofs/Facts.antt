@@ -18,7 +18,7 @@ use Rattle.handler_chains.proofs.Finding.{text_is}
 use Rattle.handler_chains.proofs.OnwardLaws.{calls_onward}
 use Rattle.execution.specs.Executions.{Act, Deed, History, IsPlayed, IsReplay, Replays, deed_of, survives}
 use Rattle.execution.specs.Together.{AreServed, CallsAreServed, IsLegalTogether, IsOne, IsServed, Serves, comes_from, history_in, name_of}
-use Rattle.one_world.specs.Trees.{IsCallee, calls_of, deed_calls}
+use Rattle.one_world.specs.Trees.{IsCallee, calls_of, deed_calls, setting_of}
 use Rattle.one_world.proofs.Lists.{Has, each_has, has_found}
 
 -- a request of a replay, and its trace
@@ -79,7 +79,7 @@ module _ (world : List History) (h : History) (a : Act) (l : Lawful world h a) w
 
   pub onward : survives a ≡ true → AllByRecursion (IsOnward (name_of h) h.setting.peers a.request) (calls_of a)
   onward alive =
-      let all = calls_onward h.setting a.request a.inputs a.answers l.run.rows in
+      let all = calls_onward (setting_of h a) a.request a.inputs a.answers l.run.rows in
       let ours : AllByRecursion (IsOnward (name_of h) h.setting.peers a.request) l.run.trace.calls =
       subst (λ (r : Ran). AllByRecursion (IsOnward (name_of h) h.setting.peers a.request) (calls_in r)) (l.run.played.live alive) all in
       subst (AllByRecursion (IsOnward (name_of h) h.setting.peers a.request)) (sym calls_run) ours

@@ -65,7 +65,7 @@ module _ (world : List History) (legal : IsLegalTogether world) (named : AreName
       record {
         run = record { world = later.run.world; responses = said first.played.response first.played.below later.run.responses };
         runs = next_is _ (λ p. run_roots (tapes_of behind) (settings_of world) (requests_of behind) p.world) first.played later.run
-            (alive_is (setting_in (name_of h) (settings_of world)) h.setting a.struck (shown ps) (λ s. in_place (tapes_of below) (settings_of world) s a.request a.inputs [] (shown ps))
+            (alive_is (setting_in (name_of h) (settings_of world)) h.setting a.program a.struck (shown ps) (λ s. in_place (tapes_of below) (settings_of world) s a.request a.inputs [] (shown ps))
             (setting_found (name_of h) world h at.found) free ∙ first.runs) goes;
         replies = (first.responds, first.replies, later.replies);
         after = later.after;

@@ -2,6 +2,7 @@
 use Rattle.std.proofs.Common.{◌≡◌, ℕ, ◌+◌, Bool, true, false, not, ◌&&◌, List, [], ◌∷◌, ◌++◌, length, map, Option, Some, None, IsSomeAnd, inl, inr, refl, sym, ap, ◌∙◌, subst, append_assoc, append-nil, length-append}
 use Rattle.std.proofs.lemmas.Bool.{cases_Bool}
 use Rattle.lang_base.specs.Texts.{same_text}
+use Rattle.lang_core.specs.HandedOn.{Route}
 use Rattle.lang_core.specs.Traces.{dead_trace}
 use Rattle.lang_core.specs.declared.ids.RequestId.{RequestId}
 use Rattle.lang_core.specs.declared.request.Response.{Response}
@@ -9,6 +10,7 @@ use Rattle.lang_core.specs.declared.setting.Setting.{Setting}
 use Rattle.lang_core.specs.declared.trace.CallMade.{CallMade}
 use Rattle.lang_core.specs.declared.trace.Trace.{Trace}
 use Rattle.handler_run.specs.Handlers.{run_of}
+use Rattle.handler_run.specs.HandedOn.{with_program}
 use Rattle.handler_run.specs.declared.state.Ran.{Ran}
 use Rattle.handler_run.specs.declared.state.Ran.TheVariants.{Done, Wants}
 use Rattle.execution.specs.Executions.{Act, Deed, History, deed_of, survives}
@@ -16,7 +18,7 @@ use Rattle.execution.specs.Together.{AreServed, IsLegalTogether, history_in, nam
 use Rattle.one_world.specs.Certificates.{AreApart, AreNamed, numbers_at}
 use Rattle.one_world.specs.OneWorld.{AreReplies, settings_of, tapes_of}
 use Rattle.one_world.specs.Tapes.{Played, World, and_behind, at_call, at_service, ended, go_on, in_place, rows_at, said, setting_in, silent, with_writes}
-use Rattle.one_world.specs.Trees.{AreCalled, Trees, none, tree, calls_of, deed_calls, id_of}
+use Rattle.one_world.specs.Trees.{AreCalled, Trees, none, tree, calls_of, deed_calls, id_of, setting_of}
 use Rattle.one_world.proofs.Facts.{callee_serves, callee_there, dead_did, dead_numbers, lawful}
 use Rattle.one_world.proofs.Fresh.{Fresh, NoneAt, end_order, none_ended, nothing_called}
 use Rattle.one_world.proofs.Lists.{Has, each_has, if_false, if_true, numbers_append, numbers_here, same_cut, same_self}
@@ -54,13 +56,13 @@ goes o k p q e f = ap (λ x. go_on x k) e ∙ ap (λ x. and_behind p x) f
 ends : (me : List ℕ) (w : World) (ran : Ran) (t : Trace) → ran ≡ Done t → ended me w ran ≡ Some (record { world = with_writes me t.writes w; response = t.response; below = silent })
 ends me w ran t e = ap (λ x. ended me w x) e
 
-struck_is : (o : Option Setting) (s : Setting) (struck : Bool) (w : World) (next : Setting → Option Played) → o ≡ Some s → struck ≡ true
-    → at_service o struck w next ≡ Some (record { world = w; response = dead_trace.response; below = silent })
-struck_is o s struck w next e is = ap (λ x. at_service x struck w next) e ∙ ap (λ b. at_service (Some s) b w next) is
+struck_is : (o : Option Setting) (s : Setting) (program : List Route) (struck : Bool) (w : World) (next : Setting → Option Played) → o ≡ Some s → struck ≡ true
+    → at_service o program struck w next ≡ Some (record { world = w; response = dead_trace.response; below = silent })
+struck_is o s program struck w next e is = ap (λ x. at_service x program struck w next) e ∙ ap (λ b. at_service (Some s) program b w next) is
 
-pub alive_is : (o : Option Setting) (s : Setting) (struck : Bool) (w : World) (next : Setting → Option Played) → o ≡ Some s → struck ≡ false
-    → at_service o struck w next ≡ next s
-alive_is o s struck w next e is = ap (λ x. at_service x struck w next) e ∙ ap (λ b. at_service (Some s) b w next) is
+pub alive_is : (o : Option Setting) (s : Setting) (program : List Route) (struck : Bool) (w : World) (next : Setting → Option Played) → o ≡ Some s → struck ≡ false
+    → at_service o program struck w next ≡ next (with_program program s)
+alive_is o s program struck w next e is = ap (λ x. at_service x program struck w next) e ∙ ap (λ b. at_service (Some s) program b w next) is
 
 -- ---- what survives
 
@@ -100,7 +102,7 @@ module _ (world : List History) where
   -- what a request comes to that runs in place on a world that so stands, and how the world stands then
   pub record Plays (t : Trees) (h : History) (a : Act) (given : List Response) (rest : List RequestId) (ps : List Stand) : Type 0 where
     pub played : Played
-    pub runs : in_place (tapes_of t) (settings_of world) h.setting a.request a.inputs given (shown ps) ≡ Some played
+    pub runs : in_place (tapes_of t) (settings_of world) (setting_of h a) a.request a.inputs given (shown ps) ≡ Some played
     pub responds : Responds a played.response
     pub replies : AreReplies t played.below
     pub after : List Stand
@@ -121,11 +123,11 @@ module _ (world : List History) where
     at_last h a given rest ps there found logged alive all same stand =
         let on = advance (name_of h) h a rest ps refl stand (apart_names ps same) (subst (λ hs. history_in (name_of h) hs ≡ Some h) (sym same) found) (apart_of h there) logged in
         let t = on.trace in
-        let run : run_of h.setting a.request a.inputs given (rows_at (name_of h) (shown ps)) ≡ Done t =
-        subst (λ xs. run_of h.setting a.request a.inputs xs (rows_at (name_of h) (shown ps)) ≡ Done t) all (on.played.live alive) in
+        let run : run_of (setting_of h a) a.request a.inputs given (rows_at (name_of h) (shown ps)) ≡ Done t =
+        subst (λ xs. run_of (setting_of h a) a.request a.inputs xs (rows_at (name_of h) (shown ps)) ≡ Done t) all (on.played.live alive) in
         record {
           played = record { world = with_writes (name_of h) t.writes (shown ps); response = t.response; below = silent };
-          runs = ends (name_of h) (shown ps) (run_of h.setting a.request a.inputs given (rows_at (name_of h) (shown ps))) t run;
+          runs = ends (name_of h) (shown ps) (run_of (setting_of h a) a.request a.inputs given (rows_at (name_of h) (shown ps))) t run;
           responds = responds_by a.did (deed_of t) t.response on.played.did refl;
           replies = tt;
           after = on.after;
@@ -136,22 +138,22 @@ module _ (world : List History) where
 
     -- a request goes on behind a call that was played
     behind_call : (g : History) (b : Act) (below behind : Trees) (h : History) (a : Act) (given : List Response) (rest : List RequestId) (ps : List Stand)
-        (slot : ℕ) (calls : List CallMade) (call c : CallMade) → run_of h.setting a.request a.inputs given (rows_at (name_of h) (shown ps)) ≡ Wants slot calls call
+        (slot : ℕ) (calls : List CallMade) (call c : CallMade) → run_of (setting_of h a) a.request a.inputs given (rows_at (name_of h) (shown ps)) ≡ Wants slot calls call
         → call ≡ c → c.dest ≡ name_of g
         → (p : Played)
-        → at_service (setting_in (name_of g) (settings_of world)) b.struck (shown ps) (λ callee. in_place (tapes_of below) (settings_of world) callee c.request b.inputs [] (shown ps)) ≡ Some p
+        → at_service (setting_in (name_of g) (settings_of world)) b.program b.struck (shown ps) (λ callee. in_place (tapes_of below) (settings_of world) callee c.request b.inputs [] (shown ps)) ≡ Some p
         → Responds b p.response → AreReplies below p.below → (later : List Stand) → p.world ≡ shown later
         → Plays behind h a (given ++ p.response ∷ []) rest later → Plays (tree g b below behind) h a given rest ps
     behind_call g b below behind h a given rest ps slot calls call c wants is to p played responds replies later shows on =
         let next : CallMade → Option Played = λ call. go_on
-        (at_service (setting_in (name_of g) (settings_of world)) b.struck (shown ps) (λ callee. in_place (tapes_of below) (settings_of world) callee call.request b.inputs [] (shown ps)))
-        (λ q. in_place (tapes_of behind) (settings_of world) h.setting a.request a.inputs (given ++ q.response ∷ []) q.world) in
-        let goes_so : in_place (tapes_of behind) (settings_of world) h.setting a.request a.inputs (given ++ p.response ∷ []) p.world ≡ Some on.played =
-        ap (λ w. in_place (tapes_of behind) (settings_of world) h.setting a.request a.inputs (given ++ p.response ∷ []) w) shows ∙ on.runs in
+        (at_service (setting_in (name_of g) (settings_of world)) b.program b.struck (shown ps) (λ callee. in_place (tapes_of below) (settings_of world) callee call.request b.inputs [] (shown ps)))
+        (λ q. in_place (tapes_of behind) (settings_of world) (setting_of h a) a.request a.inputs (given ++ q.response ∷ []) q.world) in
+        let goes_so : in_place (tapes_of behind) (settings_of world) (setting_of h a) a.request a.inputs (given ++ p.response ∷ []) p.world ≡ Some on.played =
+        ap (λ w. in_place (tapes_of behind) (settings_of world) (setting_of h a) a.request a.inputs (given ++ p.response ∷ []) w) shows ∙ on.runs in
         record {
           played = joined p on.played;
-          runs = call_is (run_of h.setting a.request a.inputs given (rows_at (name_of h) (shown ps))) (name_of g) next slot calls call c wants is to
-              ∙ goes _ (λ q. in_place (tapes_of behind) (settings_of world) h.setting a.request a.inputs (given ++ q.response ∷ []) q.world) p on.played played goes_so;
+          runs = call_is (run_of (setting_of h a) a.request a.inputs given (rows_at (name_of h) (shown ps))) (name_of g) next slot calls call c wants is to
+              ∙ goes _ (λ q. in_place (tapes_of behind) (settings_of world) (setting_of h a) a.request a.inputs (given ++ q.response ∷ []) q.world) p on.played played goes_so;
           responds = on.responds;
           replies = (responds, replies, on.replies);
           after = on.after;
@@ -165,7 +167,7 @@ module _ (world : List History) where
       pub slot : ℕ
       pub calls : List CallMade
       pub call : CallMade
-      pub wants : run_of h.setting a.request a.inputs given (rows_at (name_of h) (shown ps)) ≡ Wants slot calls call
+      pub wants : run_of (setting_of h a) a.request a.inputs given (rows_at (name_of h) (shown ps)) ≡ Wants slot calls call
       pub is : call ≡ c
 
     comes : (h : History) (a : Act) (given : List Response) (ps : List Stand) (todo : List RequestId) (ns : List ℕ) (c : CallMade) (cs : List CallMade) (r : Response) (rs : List Response)
@@ -174,9 +176,9 @@ module _ (world : List History) where
     comes h a given ps todo ns c cs r rs front there found logged alive answers calls count same stand next =
         let pk = peek (name_of h) h a ns todo ps stand (subst (λ hs. history_in (name_of h) hs ≡ Some h) (sym same) found) (apart_of h there) logged next in
         let rows = rows_at (name_of h) (shown ps) in
-        let run : run_of h.setting a.request a.inputs (given ++ r ∷ rs) rows ≡ Done pk.trace =
-        subst (λ xs. run_of h.setting a.request a.inputs xs rows ≡ Done pk.trace) answers (pk.played.live alive) in
-        let w = wants_next h.setting a.request a.inputs rows pk.trace rs given r run (sym pk.played.consumed ∙ answers) in
+        let run : run_of (setting_of h a) a.request a.inputs (given ++ r ∷ rs) rows ≡ Done pk.trace =
+        subst (λ xs. run_of (setting_of h a) a.request a.inputs xs rows ≡ Done pk.trace) answers (pk.played.live alive) in
+        let w = wants_next (setting_of h a) a.request a.inputs rows pk.trace rs given r run (sym pk.played.consumed ∙ answers) in
         let made : w.calls ++ w.call ∷ w.more ≡ front ++ c ∷ cs = sym w.made ∙ sym (ap deed_calls pk.played.did) ∙ calls in
         record { slot = w.slot; calls = w.calls; call = w.call; wants = w.wants; is = (same_cut w.calls w.call w.more front c cs made (w.count ∙ sym count)).0 }
 
@@ -214,7 +216,7 @@ module _ (world : List History) where
               let says = responds_by b.did (deed_of dead_trace) dead_trace.response (dead_did world g b law dead) refl in
               let later : AllStand (end_order behind ++ id_of h a ∷ rest) ps = subst (λ xs. AllStand (xs ++ id_of h a ∷ rest) ps) (end_dead g b below behind dead) stand in
               behind_call g b below behind h a given rest ps come.slot come.calls come.call c come.wants come.is (sym at.named) p
-              (struck_is _ g.setting b.struck (shown ps) _ setting struck) says
+              (struck_is _ g.setting b.program b.struck (shown ps) _ setting struck) says
               (silent_below below (nothing_called below world (name_of g) b.numbers (calls_of b) called.1 (dead_numbers world g b law dead))) ps refl
               (plays behind h a ns cs rs (given ++ dead_trace.response ∷ []) (front ++ c ∷ []) rest ps there found logged alive called.2 served.1
               (answers_on a given dead_trace.response r rs answers (one_response b.did dead_trace.response r says serves.response))
@@ -225,10 +227,10 @@ module _ (world : List History) where
               (ap (λ xs. xs ++ id_of h a ∷ rest) (end_alive g b below behind lives) ∙ append_assoc (end_order below) (id_of g b ∷ end_order behind) (id_of h a ∷ rest)) stand in
               let under = plays below g b b.numbers (calls_of b) b.answers [] [] (end_order behind ++ id_of h a ∷ rest) ps at.world_has at.found at.logged lives called.1 (law.served lives)
               refl refl refl fresh.0 fresh.1 same all in
-              let runs : in_place (tapes_of below) (settings_of world) g.setting c.request b.inputs [] (shown ps) ≡ Some under.played =
-              subst (λ q. in_place (tapes_of below) (settings_of world) g.setting q b.inputs [] (shown ps) ≡ Some under.played) serves.request under.runs in
+              let runs : in_place (tapes_of below) (settings_of world) (setting_of g b) c.request b.inputs [] (shown ps) ≡ Some under.played =
+              subst (λ q. in_place (tapes_of below) (settings_of world) (setting_of g b) q b.inputs [] (shown ps) ≡ Some under.played) serves.request under.runs in
               behind_call g b below behind h a given rest ps come.slot come.calls come.call c come.wants come.is (sym at.named) under.played
-              (alive_is _ g.setting b.struck (shown ps) _ setting free ∙ runs) under.responds under.replies under.after under.shows
+              (alive_is _ g.setting b.program b.struck (shown ps) _ setting free ∙ runs) under.responds under.replies under.after under.shows
               (plays behind h a ns cs rs (given ++ under.played.response ∷ []) (front ++ c ∷ []) rest under.after there found logged alive called.2 served.1
               (answers_on a given under.played.response r rs answers (one_response b.did under.played.response r under.responds serves.response))
               (calls_on a front c cs calls) (count_on front c given under.played.response count) clear.2 fresh.2 under.same under.all))

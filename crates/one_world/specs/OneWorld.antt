@@ -25,15 +25,15 @@ next_root (Some p) next = and_roots p (next p)
 -- roots that ask this, one after the other
 abbrev pub run_roots : Tapes → List Setting → List Request → World → Option Run
 run_roots no_tapes settings [] w = Some (record { world = w; responses = silent })
-run_roots (tape dest j struck below behind) settings (q ∷ qs) w =
-    next_root (at_service (setting_in dest settings) struck w (λ s. in_place below settings s q j [] w))
+run_roots (tape dest j program struck below behind) settings (q ∷ qs) w =
+    next_root (at_service (setting_in dest settings) program struck w (λ s. in_place below settings s q j [] w))
     (λ p. run_roots behind settings qs p.world)
 run_roots tapes settings qs w = None
 
 -- the tapes of requests
 abbrev pub tapes_of : Trees → Tapes
 tapes_of none = no_tapes
-tapes_of (tree h a below behind) = tape (name_of h) a.inputs a.struck (tapes_of below) (tapes_of behind)
+tapes_of (tree h a below behind) = tape (name_of h) a.inputs a.program a.struck (tapes_of below) (tapes_of behind)
 
 -- each service without rows, and with its last
 abbrev pub before_all : List History → World

@@ -3,6 +3,7 @@
 -- It is a recursion on tapes. Neither a log nor an answer from one, nor any message, occurs in it.
 use Rattle.std.specs.Prelude.{ℕ, Bool, true, false, List, [], ◌∷◌, ◌++◌, Option, Some, None, find, if◌then◌else◌}
 use Rattle.lang_base.specs.Texts.{same_text}
+use Rattle.lang_core.specs.HandedOn.{Route}
 use Rattle.lang_core.specs.Rows.{apply}
 use Rattle.lang_core.specs.Traces.{dead_trace}
 use Rattle.lang_core.specs.declared.cells.Cell.{Cell}
@@ -13,14 +14,16 @@ use Rattle.lang_core.specs.declared.setting.Setting.{Setting}
 use Rattle.lang_core.specs.declared.trace.CallMade.{CallMade}
 use Rattle.lang_core.specs.declared.writes.Write.{Write}
 use Rattle.handler_run.specs.Handlers.{run_of}
+use Rattle.handler_run.specs.HandedOn.{with_program}
 use Rattle.handler_run.specs.declared.state.Ran.{Ran}
 use Rattle.handler_run.specs.declared.state.Ran.TheVariants.{Done, Wants}
 use Rattle.one_world.specs.declared.rows.Rows.{Rows}
 
--- a service, the clock and random words that its request is given, whether that is struck, the tapes of its calls by slot; and the tapes behind
+-- a service, the clock and random words that its request is given, the program that this runs under, whether it is struck, the tapes of its calls by slot; and
+-- the tapes behind
 pub data Tapes : Type 0 where
   none : Tapes
-  tape : (service : List ℕ) → (inputs : Inputs) → (struck : Bool) → (below : Tapes) → (behind : Tapes) → Tapes
+  tape : (service : List ℕ) → (inputs : Inputs) → (program : List Route) → (struck : Bool) → (below : Tapes) → (behind : Tapes) → Tapes
 
 -- responses, each with those of the calls, and with the responses behind
 pub data Responses : Type 0 where
@@ -63,11 +66,11 @@ at_call (Wants slot calls call) dest next = if same_text call.dest dest then nex
 abbrev pub setting_in : List ℕ → List Setting → Option Setting
 setting_in name settings = find (λ s. same_text s.me name) settings
 
--- at that service; a struck request does nothing, and answers 410
-abbrev pub at_service : Option Setting → Bool → World → (Setting → Option Played) → Option Played
-at_service None struck w next = None
-at_service (Some s) true w next = Some (record { world = w; response = dead_trace.response; below = silent })
-at_service (Some s) false w next = next s
+-- at that service, with this program; a struck request does nothing, and answers 410
+abbrev pub at_service : Option Setting → List Route → Bool → World → (Setting → Option Played) → Option Played
+at_service None program struck w next = None
+at_service (Some s) program true w next = Some (record { world = w; response = dead_trace.response; below = silent })
+at_service (Some s) program false w next = next (with_program program s)
 
 -- with the response of a call before those of the calls behind it
 abbrev pub and_behind : Played → Option Played → Option Played
@@ -83,7 +86,7 @@ go_on (Some p) next = and_behind p (next p)
 -- call asks, and what that wrote stands before the request goes on; the request's own writes are made at its end
 abbrev pub in_place : Tapes → List Setting → Setting → Request → Inputs → List Response → World → Option Played
 in_place none settings s q i given w = ended s.me w (run_of s q i given (rows_at s.me w))
-in_place (tape dest j struck below behind) settings s q i given w =
+in_place (tape dest j program struck below behind) settings s q i given w =
     at_call (run_of s q i given (rows_at s.me w)) dest (λ call. go_on
-    (at_service (setting_in dest settings) struck w (λ callee. in_place below settings callee call.request j [] w))
+    (at_service (setting_in dest settings) program struck w (λ callee. in_place below settings callee call.request j [] w))
     (λ p. in_place behind settings s q i (given ++ p.response ∷ []) p.world))

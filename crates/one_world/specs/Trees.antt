@@ -3,7 +3,9 @@ use Rattle.std.specs.Prelude.{ℕ, ◌≡◌, true, List, [], ◌∷◌, ◌++�
 use Rattle.lang_core.specs.declared.ids.Origin.TheVariants.{Outside}
 use Rattle.lang_core.specs.declared.ids.RequestId.{RequestId}
 use Rattle.lang_core.specs.declared.request.Request.{Request}
+use Rattle.lang_core.specs.declared.setting.Setting.{Setting}
 use Rattle.lang_core.specs.declared.trace.CallMade.{CallMade}
+use Rattle.handler_run.specs.HandedOn.{with_program}
 use Rattle.execution.specs.Executions.{Act, Deed, History, survives}
 use Rattle.execution.specs.Together.{comes_from, history_in, name_of}
 
@@ -53,6 +55,10 @@ AreRoots none world [] = Unit {0}
 AreRoots (tree h a below behind) world (id ∷ order) =
     IsRoot world id h a × AreCalled below world (name_of h) a.numbers (calls_of a) × AreRoots behind world order
 AreRoots trees world order = ⊥
+
+-- the setting of a service, with the program of a request
+abbrev pub setting_of : History → Act → Setting
+setting_of h a = with_program a.program h.setting
 
 -- the name of a request
 abbrev pub id_of : History → Act → RequestId

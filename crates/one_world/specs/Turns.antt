@@ -12,7 +12,7 @@ use Rattle.handler_run.specs.declared.state.Ran.TheVariants.{Done, Wants}
 use Rattle.execution.specs.Executions.{Act, History}
 use Rattle.execution.specs.Together.{history_in, name_of}
 use Rattle.one_world.specs.Tapes.{World, rows_at, with_writes}
-use Rattle.one_world.specs.Trees.{act_in, callee_in, calls_of}
+use Rattle.one_world.specs.Trees.{act_in, callee_in, calls_of, setting_of}
 
 -- the world after a request, and its response
 pub record Turned : Type 0 where
@@ -54,17 +54,17 @@ turn_callee player caller n w q (Some h) = turn_found player w q h (callee_in ca
 
 -- a request that has made its calls, of which no name may be left
 abbrev pub turn_last : History → Act → Request → List ℕ → List Response → World → Option Turned
-turn_last h a q [] given w = turn_end (name_of h) w (run_of h.setting q a.inputs given (rows_at (name_of h) w))
+turn_last h a q [] given w = turn_end (name_of h) w (run_of (setting_of h a) q a.inputs given (rows_at (name_of h) w))
 turn_last h a q (n ∷ ns) given w = None
 
 -- the call to which a request comes whose first calls gave these responses
 abbrev pub turn_call : Player → List History → History → Act → Request → ℕ → List ℕ → List Response → World → Option Turned
 turn_call player world h a q n dest given w =
-    with_call (call_to (run_of h.setting q a.inputs given (rows_at (name_of h) w)) dest) (λ call. turn_callee player (name_of h) n w call.request (history_in dest world))
+    with_call (call_to (run_of (setting_of h a) q a.inputs given (rows_at (name_of h) w)) dest) (λ call. turn_callee player (name_of h) n w call.request (history_in dest world))
 
 -- a request whose first calls gave these responses, and which makes these calls more
 abbrev pub turn_calls : Player → List History → History → Act → Request → List ℕ → List CallMade → List Response → World → Option Turned
-turn_calls player world h a q [] [] given w = turn_end (name_of h) w (run_of h.setting q a.inputs given (rows_at (name_of h) w))
+turn_calls player world h a q [] [] given w = turn_end (name_of h) w (run_of (setting_of h a) q a.inputs given (rows_at (name_of h) w))
 turn_calls player world h a q (n ∷ ns) (c ∷ cs) given w =
     turn_on (turn_call player world h a q n c.dest given w) (λ t. turn_calls player world h a q ns cs (given ++ t.response ∷ []) t.world)
 turn_calls player world h a q ns cs given w = None
