@@ -4,6 +4,7 @@ ghost use Rattle.std.specs.Option.{option_copied, option_map};
 ghost use Rattle.lang_base.specs.Texts.{same_text};
 ghost use Rattle.lang_core.specs.Traces.{dead_trace};
 ghost use Rattle.execution.specs.Together.{history_in};
+ghost use Rattle.handler_run.specs.HandedOn.{with_program};
 ghost use Rattle.handler_run.specs.Handlers.{run_of};
 ghost use Rattle.dump_tables.specs.Kept.{AreKept};
 ghost use Rattle.dump_audit.specs.Histories.{act_of, histories_of, history_of};
@@ -56,7 +57,7 @@ fn write_at(
     Ok(())
 }
 
-// Runs a request on the rows of its service, with what its first calls gave.
+// Runs a request under its entry's program on the rows of its service, with what its first calls gave.
 fn run_on(
     alloc: Global,
     service: &DumpService,
@@ -65,14 +66,22 @@ fn run_on(
     given: &Answers,
     world: &[PlayedRows],
 ) -> Result<Ran, NoMemory>
-    ensures { IfOk result (λ ran. ran ≡ run_of service.now.setting request.now entry.now.inputs given.now (rows_at service.now.setting.me world.now)) }
+    ensures { IfOk result (λ ran. ran ≡ run_of (with_program entry.now.program service.now.setting) request.now entry.now.inputs given.now (rows_at service.now.setting.me world.now)) }
 {
     let none = RowTree::new(alloc);
     let rows = match rows_at(&service.setting.me, world) {
         Some(rows) => rows,
         None => &none,
     };
-    run(alloc, &service.setting, request, &entry.inputs, given, rows)
+    run(
+        alloc,
+        &service.setting,
+        entry.program.get(),
+        request,
+        &entry.inputs,
+        given,
+        rows,
+    )
 }
 
 // The writes of a run that ends are made.
