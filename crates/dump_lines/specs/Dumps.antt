@@ -1,6 +1,7 @@
 -- Services written down line by line, with all that a legal execution is made of: whoever reads it needs nothing else to judge them.
-use Rattle.std.specs.Prelude.{ℕ, ◌++◌, Bool, true, false, List, [], ◌∷◌, Option, Some, None, codes, decimal}
+use Rattle.std.specs.Prelude.{ℕ, ◌++◌, Bool, true, false, List, [], ◌∷◌, Option, Some, None, codes, decimal, nat_eq, if◌then◌else◌}
 use Rattle.std.specs.List.{flat_map, zip}
+use Rattle.lang_core.specs.HandedOn.{Route}
 use Rattle.lang_core.specs.declared.cells.Cell.{Cell}
 use Rattle.lang_core.specs.declared.ids.Origin.{Origin}
 use Rattle.lang_core.specs.declared.ids.Origin.TheVariants.{Outside, Call}
@@ -13,6 +14,7 @@ use Rattle.request_names.specs.Ids.{id_text}
 use Rattle.request_log.specs.Records.{Record, record_of, recorded_calls}
 use Rattle.request_log.specs.declared.entry.Entry.{Entry}
 use Rattle.local_repair.specs.Current.{Consumed, rows_after}
+use Rattle.journal_rows.specs.Programs.{programs}
 use Rattle.report_text.specs.Reports.{asked_text, body_behind, escaped_key, response_text}
 use Rattle.service_events.specs.State.{Kept, answers, base, me, unfolded}
 
@@ -60,6 +62,10 @@ entry_line e =
     codes "entry " ++ (decimal e.id ++ (codes " " ++ (origin_text e.origin ++ (standing_text e ++ (inputs_text e.inputs
     ++ (request_text e.request ++ codes "\n"))))))
 
+-- `under K`, where that isn't the first program
+abbrev pub under_line : ℕ → List ℕ
+under_line number = if nat_eq number 1 then [] else codes "under " ++ (decimal number ++ codes "\n")
+
 -- `call NUMBER DEST METHOD PATH BODY`
 abbrev pub call_line : ℕ → CallMade → List ℕ
 call_line number c =
@@ -79,11 +85,12 @@ abbrev pub reply_line : Option Record → List ℕ
 reply_line None = codes "reply none\n"
 reply_line (Some r) = codes "reply " ++ (response_text r.response ++ codes "\n")
 
--- an entry, its calls in the order of their slots, and its reply
+-- an entry, the number of its program as it is now, its calls in the order of their slots, and its reply
 abbrev pub entry_lines : Consumed → Entry → List ℕ
 entry_lines consumed e =
     entry_line e
-    ++ (flat_map (call_lines consumed) (zip e.slots (recorded_calls (record_of e))) ++ reply_line (record_of e))
+    ++ (under_line e.under.now.number
+    ++ (flat_map (call_lines consumed) (zip e.slots (recorded_calls (record_of e))) ++ reply_line (record_of e)))
 
 -- ---- a service
 
@@ -91,11 +98,17 @@ entry_lines consumed e =
 abbrev pub row_line : Cell → List ℕ
 row_line c = codes "row " ++ (escaped_key c.table ++ (codes " " ++ (escaped_key c.key ++ (body_behind c.text ++ codes "\n"))))
 
--- `service NAME`, `peers A,B` and `program TEXT`
+-- `program TEXT`
+abbrev pub program_line : List Route → List ℕ
+program_line program = codes "program" ++ (body_behind (text_of program) ++ codes "\n")
+
+-- its programs by their numbers, from 1 on: its setting's, and each that an order brought
+abbrev pub program_lines : Kept → List ℕ
+program_lines s = flat_map program_line (programs s.setting.program s.journal)
+
+-- `service NAME`, `peers A,B`, and `program TEXT` for each program
 abbrev pub head_lines : Kept → List ℕ
-head_lines s =
-    codes "service " ++ (me s ++ (codes "\npeers " ++ (names_text s.setting.peers
-    ++ (codes "\nprogram" ++ (body_behind (text_of s.setting.program) ++ codes "\n")))))
+head_lines s = codes "service " ++ (me s ++ (codes "\npeers " ++ (names_text s.setting.peers ++ (codes "\n" ++ program_lines s))))
 
 -- what it is set to do, its entries in logged order, the folded ones first and like the others, the rows after them, and `end`
 abbrev pub service_lines : Kept → List ℕ
