@@ -13,17 +13,19 @@ use Rattle.request_log.specs.Folded.{bare}
 use Rattle.request_log.specs.declared.entry.Entry.{Entry}
 use Rattle.local_repair.specs.Current.{IsRun}
 use Rattle.local_repair.specs.Histories.{act_kept}
+use Rattle.local_repair.specs.Programs.{setting_ran}
 use Rattle.local_repair.proofs.TestLemmas.{is_current-from}
 use Rattle.repair_messages.specs.declared.messages.TokenMessage.{TokenMessage}
 use Rattle.journal_rows.specs.declared.orders.Command.TheVariants.{Cancel, Fold}
+use Rattle.journal_rows.specs.declared.orders.OrderedRow.{OrderedRow}
 use Rattle.call_registers.specs.Registers.{owes_fetch, register}
 use Rattle.call_registers.specs.declared.register.Register.{Register}
 use Rattle.call_registers.specs.declared.reply.Reply.{Reply}
 use Rattle.service_events.specs.State.{Kept, after, answers, me}
 use Rattle.service_events.specs.Calls.{noted}
 use Rattle.service_events.specs.Messages.{take_token_event}
-use Rattle.service_events.specs.Orders.{carried_out, is_due, is_quiet_call, order_rows, refused, unless_quiet}
-use Rattle.service_events.specs.Fits.{Fits, FitsSent, FitsSeen, FitsAsked, FitsHorizon, IsAsNow, IsDoneWith, IsPast, HasAnswered, HasReply, WantsItsCalls, AreOther}
+use Rattle.service_events.specs.Orders.{about, carried_out, is_due, is_quiet_call, order_rows, order_rule, original, refused, repaired, unless_quiet}
+use Rattle.service_events.specs.Fits.{Fits, FitsSent, FitsSeen, FitsAsked, FitsHorizon, IsAsNow, IsDoneWith, IsPast, WasUnder, HasAnswered, HasReply, WantsItsCalls, AreOther}
 use Rattle.service_events.specs.declared.refusals.AnswerRefused.{AnswerRefused}
 use Rattle.service_events.specs.declared.refusals.OrderRefused.TheVariants.{NotQuiet, TooOld}
 use Rattle.service_events.proofs.PurchaseExample.{shop_name, bank_name, ok, bought, entry, paid, made, paid_made, trace}
@@ -47,6 +49,9 @@ module _ (setting : Setting) (buy pay : Request) (i : Inputs) (written : List Wr
   abbrev shop : Kept
   shop = noted (order_rows before (Fold 1) token ann i) (carried_out before (Fold 1) ann i)
 
+  abbrev fold_order : OrderedRow
+  fold_order = record { token = token; command = Fold 1; who = ann; rule = order_rule before (Fold 1) ann; original = original before (Fold 1); repaired = repaired before (Fold 1); about = about before (Fold 1) }
+
   abbrev bank : Kept
   bank = paid bank_setting buy pay i [] written token ann
 
@@ -63,7 +68,7 @@ module _ (setting : Setting) (buy pay : Request) (i : Inputs) (written : List Wr
   quiet_before : unless_quiet before (Fold 1) ≡ None
   quiet_before =
       ap (λ (b : Bool). option_map (λ n. NotQuiet n) (if b && not (is_due before bought_entry) && list_all (is_quiet_call before) bought_entry.slots then None else Some 1))
-      (is_current-from (answers before) [] bought_entry (record { alive = refl; version = refl; request = refl; reads = All-nil _; answers = refl }))
+      (is_current-from (answers before) [] bought_entry (record { alive = refl; version = refl; request = refl; reads = All-nil _; answers = refl; handler = λ _. refl }))
 
   -- ---- joined and quiet
 
@@ -159,7 +164,7 @@ module _ (setting : Setting) (buy pay : Request) (i : Inputs) (written : List Wr
       seen = shop_seen;
       taken = (tt, (tt, (tt, (tt, (refl, (tt, tt))))));
       asked = shop_asked;
-      runs = All-nil (λ (e : Entry). IfSome e.made (IsRun shop_setting e.inputs));
+      runs = All-nil (λ (e : Entry). IfSome e.made (IsRun (setting_ran shop_setting e) e.inputs));
       answered = record {
         rows = (tt, (tt, (tt, (tt, ((refl, refl, λ _. (refl, tt)), (tt, tt))))));
         entries = all_one (HasAnswered shop.journal) _ (record { answer = refl; first = λ e. cc });
@@ -180,6 +185,16 @@ module _ (setting : Setting) (buy pay : Request) (i : Inputs) (written : List Wr
       flights = record { numbered = All-nil _; others = no_pairs AreOther; untaken = All-nil _ };
       orders = (tt, (tt, (tt, (tt, (tt, (refl, tt))))));
       horizon = shop_horizon;
+      programs = record {
+        rows = (tt, (tt, (tt, ((refl, refl), (tt, (tt, tt))))));
+        newest = refl;
+        current = record { there = refl; stands = refl };
+        rules = refl;
+        past = all_one (WasUnder shop.setting.program shop.journal) folded_entry
+            (record { before = before.journal; order = fold_order; rest = []; is = refl; folds = refl; number = refl; there = refl; ran = refl });
+        entries = All-nil _;
+        flights = All-nil _;
+      };
     }
 
     -- ---- one legal execution, where the records were what runs gave
@@ -187,7 +202,7 @@ module _ (setting : Setting) (buy pay : Request) (i : Inputs) (written : List Wr
     legal : IsRun bank_setting i (paid_made bank_setting buy pay i [] written token ann) → AreLegal both
     legal bank_ran =
         legal_together both
-        (all_two Fits shop bank shop_fits (bank_fits setting buy pay i written token ann (all_one (λ (e : Entry). IfSome e.made (IsRun bank_setting e.inputs)) _ bank_ran)))
+        (all_two Fits shop bank shop_fits (bank_fits setting buy pay i written token ann (all_one (λ (e : Entry). IfSome e.made (IsRun (setting_ran bank_setting e) e.inputs)) _ bank_ran)))
         differ joined quiet
 
   -- ---- behind the horizon

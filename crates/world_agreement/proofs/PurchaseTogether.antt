@@ -12,12 +12,13 @@ use Rattle.lang_core.specs.declared.writes.Write.{Write}
 use Rattle.execution.specs.Together.{CallsAreServed, IsLegalTogether}
 use Rattle.request_log.specs.Entries.{has_id}
 use Rattle.request_log.specs.declared.entry.Entry.{Entry}
-use Rattle.local_repair.specs.Current.{IsRun}
+use Rattle.local_repair.specs.Current.{AllRuns, IsRun}
+use Rattle.local_repair.specs.Programs.{setting_ran}
 use Rattle.call_registers.specs.Registers.{owes_fetch}
 use Rattle.call_registers.specs.declared.register.Register.{Register}
 use Rattle.call_registers.specs.declared.reply.Reply.{Reply}
 use Rattle.service_events.specs.State.{Kept, me}
-use Rattle.service_events.specs.Fits.{Fits, FitsSent, FitsSeen, FitsAsked, IsAsNow, HasAnswered, HasReply, WantsItsCalls, AreOther}
+use Rattle.service_events.specs.Fits.{Fits, FitsSent, FitsSeen, FitsAsked, IsAsNow, IsUnder, HasAnswered, HasReply, WantsItsCalls, AreOther}
 use Rattle.service_events.proofs.PurchaseExample.{shop_name, bank_name, ok, start, sent, bought, paid, made, paid_made}
 use Rattle.world_agreement.specs.Partners.{NamesDiffer, HasPartner, IsJoined}
 use Rattle.world_agreement.specs.Quiet.{IsQuiet, AreQuiet}
@@ -72,7 +73,7 @@ module _ (setting : Setting) (buy pay : Request) (i : Inputs) (written : List Wr
   shop_quiet : IsQuiet shop
   shop_quiet = record {
     landed = refl;
-    current = (record { alive = refl; version = refl; request = refl; reads = All-nil _; answers = refl }, tt);
+    current = (record { alive = refl; version = refl; request = refl; reads = All-nil _; answers = refl; handler = λ _. refl }, tt);
     acknowledged = all_one (λ (r : Register). r.acked ≡ r.version) _ refl;
     fetched = all_one (λ (r : Register). owes_fetch r ≡ false) _ refl;
     given = All-nil (λ (p : Reply). p.due ≡ false);
@@ -81,7 +82,7 @@ module _ (setting : Setting) (buy pay : Request) (i : Inputs) (written : List Wr
   pub bank_quiet : IsQuiet bank
   bank_quiet = record {
     landed = refl;
-    current = (record { alive = refl; version = refl; request = refl; reads = All-nil _; answers = refl }, tt);
+    current = (record { alive = refl; version = refl; request = refl; reads = All-nil _; answers = refl; handler = λ _. refl }, tt);
     acknowledged = All-nil (λ (r : Register). r.acked ≡ r.version);
     fetched = All-nil (λ (r : Register). owes_fetch r ≡ false);
     given = all_one (λ (p : Reply). p.due ≡ false) _ refl;
@@ -134,7 +135,7 @@ module _ (setting : Setting) (buy pay : Request) (i : Inputs) (written : List Wr
     now = all_one (IsAsNow shop.journal) _ (record { version = refl; wanted = refl; request = refl; struck = refl });
   }
 
-  shop_fits : All (λ (e : Entry). IfSome e.made (IsRun at_shop e.inputs)) shop.entries → Fits shop
+  shop_fits : AllRuns at_shop shop.entries → Fits shop
   shop_fits runs = record {
     sent = shop_sent;
     seen = shop_seen;
@@ -161,6 +162,15 @@ module _ (setting : Setting) (buy pay : Request) (i : Inputs) (written : List Wr
     flights = record { numbered = All-nil _; others = no_pairs AreOther; untaken = All-nil _ };
     orders = (tt, (tt, (tt, (tt, (tt, tt)))));
     horizon = record { within = omega arith; last = refl; each = All-nil _; replayed = record { traces = []; replay = refl } };
+    programs = record {
+      rows = (tt, (tt, (tt, ((refl, refl), (tt, tt)))));
+      newest = refl;
+      current = record { there = refl; stands = refl };
+      rules = refl;
+      past = All-nil _;
+      entries = all_one (IsUnder shop.setting.program shop.journal) _ (record { number = refl; now = record { there = refl; stands = refl }; ran = refl });
+      flights = All-nil _;
+    };
   }
 
   -- ---- the bank fits its journal
@@ -182,7 +192,7 @@ module _ (setting : Setting) (buy pay : Request) (i : Inputs) (written : List Wr
     now = all_one (IsAsNow bank.journal) _ (record { version = refl; wanted = refl; request = refl; struck = refl });
   }
 
-  pub bank_fits : All (λ (e : Entry). IfSome e.made (IsRun at_bank e.inputs)) bank.entries → Fits bank
+  pub bank_fits : AllRuns at_bank bank.entries → Fits bank
   bank_fits runs = record {
     sent = record { rows = (tt, (tt, (tt, tt))); registers = λ n. refl; count = refl; numbered = tt };
     seen = record { rows = (tt, (tt, (tt, tt))); registers = λ n. tt; answered = λ n told. cc; heard = λ n. omega arith; told = λ n. omega arith };
@@ -204,6 +214,15 @@ module _ (setting : Setting) (buy pay : Request) (i : Inputs) (written : List Wr
     flights = record { numbered = All-nil _; others = no_pairs AreOther; untaken = All-nil _ };
     orders = (tt, (tt, (tt, tt)));
     horizon = record { within = omega arith; last = refl; each = All-nil _; replayed = record { traces = []; replay = refl } };
+    programs = record {
+      rows = ((refl, refl), (tt, (tt, tt)));
+      newest = refl;
+      current = record { there = refl; stands = refl };
+      rules = refl;
+      past = All-nil _;
+      entries = all_one (IsUnder bank.setting.program bank.journal) _ (record { number = refl; now = record { there = refl; stands = refl }; ran = refl });
+      flights = All-nil _;
+    };
   }
 
   -- ---- one legal execution, where the records are what runs gave
@@ -212,8 +231,8 @@ module _ (setting : Setting) (buy pay : Request) (i : Inputs) (written : List Wr
       → AreLegal both
   legal shop_ran bank_ran =
       legal_together both
-      (all_two Fits shop bank (shop_fits (all_one (λ (e : Entry). IfSome e.made (IsRun at_shop e.inputs)) _ shop_ran))
-      (bank_fits (all_one (λ (e : Entry). IfSome e.made (IsRun at_bank e.inputs)) _ bank_ran)))
+      (all_two Fits shop bank (shop_fits (all_one (λ (e : Entry). IfSome e.made (IsRun (setting_ran at_shop e) e.inputs)) _ shop_ran))
+      (bank_fits (all_one (λ (e : Entry). IfSome e.made (IsRun (setting_ran at_bank e) e.inputs)) _ bank_ran)))
       differ joined quiet
 
   -- ---- what is refused

@@ -11,13 +11,14 @@ use Rattle.lang_core.specs.declared.writes.Write.{Write}
 use Rattle.request_log.specs.Entries.{has_id}
 use Rattle.request_log.specs.declared.entry.Entry.{Entry}
 use Rattle.local_repair.specs.Current.{IsRun, AllRuns}
+use Rattle.local_repair.specs.Programs.{setting_ran}
 use Rattle.call_registers.specs.Registers.{owes_fetch}
 use Rattle.call_registers.specs.declared.register.Register.{Register}
 use Rattle.call_registers.specs.declared.reply.Reply.{Reply}
 use Rattle.service_events.specs.State.{Kept, me}
 use Rattle.service_events.specs.Calls.{noted}
 use Rattle.service_events.specs.Messages.{saw_ack_row}
-use Rattle.service_events.specs.Fits.{Fits, FitsSent, FitsSeen, FitsAsked, IsAsNow, HasAnswered, HasReply, WantsItsCalls, AreOther}
+use Rattle.service_events.specs.Fits.{Fits, FitsSent, FitsSeen, FitsAsked, IsAsNow, IsUnder, HasAnswered, HasReply, WantsItsCalls, AreOther}
 use Rattle.service_events.proofs.PurchaseExample.{shop_name, bank_name, ok, named, cancelled, remade, unwanted, unpaid}
 use Rattle.world_agreement.specs.Partners.{NamesDiffer, HasPartner, IsJoined}
 use Rattle.world_agreement.specs.Quiet.{IsQuiet, AreQuiet}
@@ -64,7 +65,7 @@ module _ (setting : Setting) (buy pay : Request) (i : Inputs) (written : List Wr
   shop_quiet : IsQuiet shop
   shop_quiet = record {
     landed = refl;
-    current = (record { alive = refl; version = refl; request = refl; reads = All-nil _; answers = refl }, tt);
+    current = (record { alive = refl; version = refl; request = refl; reads = All-nil _; answers = refl; handler = λ _. refl }, tt);
     acknowledged = all_one (λ (r : Register). r.acked ≡ r.version) _ refl;
     fetched = all_one (λ (r : Register). owes_fetch r ≡ false) _ refl;
     given = All-nil (λ (p : Reply). p.due ≡ false);
@@ -73,7 +74,7 @@ module _ (setting : Setting) (buy pay : Request) (i : Inputs) (written : List Wr
   bank_quiet : IsQuiet bank
   bank_quiet = record {
     landed = refl;
-    current = (record { alive = refl; version = refl; request = refl; reads = All-nil _; answers = refl }, tt);
+    current = (record { alive = refl; version = refl; request = refl; reads = All-nil _; answers = refl; handler = λ _. refl }, tt);
     acknowledged = All-nil (λ (r : Register). r.acked ≡ r.version);
     fetched = All-nil (λ (r : Register). owes_fetch r ≡ false);
     given = all_one (λ (p : Reply). p.due ≡ false) _ refl;
@@ -127,7 +128,7 @@ module _ (setting : Setting) (buy pay : Request) (i : Inputs) (written : List Wr
   }
 
   shop_ran : AllRuns shop_setting shop.entries
-  shop_ran = all_one (λ (e : Entry). IfSome e.made (IsRun shop_setting e.inputs)) _ (record { live = λ alive. cc; dead = λ _. refl })
+  shop_ran = all_one (λ (e : Entry). IfSome e.made (IsRun (setting_ran shop_setting e) e.inputs)) _ (record { live = λ alive. cc; dead = λ _. refl })
 
   shop_fits : Fits shop
   shop_fits = record {
@@ -156,6 +157,15 @@ module _ (setting : Setting) (buy pay : Request) (i : Inputs) (written : List Wr
     flights = record { numbered = All-nil _; others = no_pairs AreOther; untaken = All-nil _ };
     orders = (tt, (tt, (tt, (tt, (tt, (refl, (tt, (tt, (tt, tt)))))))));
     horizon = record { within = omega arith; last = refl; each = All-nil _; replayed = record { traces = []; replay = refl } };
+    programs = record {
+      rows = (tt, (tt, (tt, ((refl, refl), (tt, (tt, (tt, (tt, (tt, tt)))))))));
+      newest = refl;
+      current = record { there = refl; stands = refl };
+      rules = refl;
+      past = All-nil _;
+      entries = all_one (IsUnder shop.setting.program shop.journal) _ (record { number = refl; now = record { there = refl; stands = refl }; ran = refl });
+      flights = All-nil _;
+    };
   }
 
   -- ---- the bank fits its journal
@@ -179,7 +189,7 @@ module _ (setting : Setting) (buy pay : Request) (i : Inputs) (written : List Wr
   }
 
   bank_ran : AllRuns bank_setting bank.entries
-  bank_ran = all_one (λ (e : Entry). IfSome e.made (IsRun bank_setting e.inputs)) _ (record { live = λ alive. cc; dead = λ _. refl })
+  bank_ran = all_one (λ (e : Entry). IfSome e.made (IsRun (setting_ran bank_setting e) e.inputs)) _ (record { live = λ alive. cc; dead = λ _. refl })
 
   bank_fits : Fits bank
   bank_fits = record {
@@ -209,6 +219,15 @@ module _ (setting : Setting) (buy pay : Request) (i : Inputs) (written : List Wr
     flights = record { numbered = All-nil _; others = no_pairs AreOther; untaken = All-nil _ };
     orders = (tt, (tt, (tt, (tt, (tt, (tt, tt))))));
     horizon = record { within = omega arith; last = refl; each = All-nil _; replayed = record { traces = []; replay = refl } };
+    programs = record {
+      rows = ((refl, refl), (tt, (tt, (tt, (tt, (tt, tt))))));
+      newest = refl;
+      current = record { there = refl; stands = refl };
+      rules = refl;
+      past = All-nil _;
+      entries = all_one (IsUnder bank.setting.program bank.journal) _ (record { number = refl; now = record { there = refl; stands = refl }; ran = refl });
+      flights = All-nil _;
+    };
   }
 
   legal : AreLegal both

@@ -8,7 +8,7 @@ use Rattle.journal_rows.specs.Words.{asked_step, asked, is_version_of, taken_ste
 use Rattle.journal_rows.specs.declared.callee.AskedRow.{AskedRow}
 use Rattle.journal_rows.specs.declared.callee.TookRow.{TookRow}
 use Rattle.journal_rows.specs.declared.orders.About.{About}
-use Rattle.journal_rows.specs.declared.orders.About.TheVariants.{Request as OfRequest, Post as OfPost}
+use Rattle.journal_rows.specs.declared.orders.About.TheVariants.{Request as OfRequest}
 use Rattle.journal_rows.specs.declared.orders.Command.{Command}
 use Rattle.journal_rows.specs.declared.orders.Command.TheVariants.{Replace}
 use Rattle.journal_rows.specs.declared.orders.OrderedRow.{OrderedRow}
@@ -56,11 +56,11 @@ module _ (id : ℕ) (c : List ℕ) (n : ℕ) (first : Request) where
 
   unordered : (o : OrderedRow) (before : List Row) (now : Request) (about : About) → IsOrderAbout about o.command before → IsOfCall (asked id before)
       → cond (is_about id about) (replaced_by now o o.command) now ≡ now
-  unordered o before now (OfPost name) h of = refl
   unordered o before now (OfRequest m) h of = elim (cases_Bool (nat_eq m id)) [
     | inl is ↦ rw is (unreplaced (asked id before) o now o.command (subst (λ k. IsOrderOn o.command (asked k before)) (eqb-true m id is) h) of)
     | inr other ↦ rw other refl
   ]
+  unordered o before now about h of = refl
 
   asks_stays : (before : List Row) (row : Row) (last : Option TookRow) (now : Request) → AsksOn before row → IsOfCall (asked id before) → AsksTaken last now
       → AsksTaken (taken_step c n last row) (request_step id (Call c n) now row)
