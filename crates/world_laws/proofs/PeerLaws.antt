@@ -14,6 +14,7 @@ use Rattle.lang_core.specs.declared.request.Response.{Response}
 use Rattle.lang_core.specs.declared.trace.CallMade.{CallMade}
 use Rattle.lang_core.specs.declared.trace.Trace.{Trace}
 use Rattle.handler_run.specs.Handlers.{run_of}
+use Rattle.handler_run.specs.HandedOn.{Route, with_program}
 use Rattle.handler_run.specs.declared.state.Ran.{Ran}
 use Rattle.handler_run.specs.declared.state.Ran.TheVariants.{Done, Wants}
 use Rattle.request_log.specs.Entries.{find_call, is_alive}
@@ -21,6 +22,7 @@ use Rattle.request_log.specs.Records.{Record, record_of}
 use Rattle.request_log.specs.declared.entry.Entry.{Entry}
 use Rattle.local_repair.specs.Alone.{trace_or_dead}
 use Rattle.local_repair.specs.Current.{Consumed, rows_after, after_entry}
+use Rattle.local_repair.specs.Programs.{setting_of}
 use Rattle.local_repair.specs.Steps.{calls_of_made, answer_at, same_call}
 use Rattle.local_repair.specs.Tests.{is_current}
 use Rattle.repair_messages.specs.declared.messages.AnswerMessage.{AnswerMessage}
@@ -33,7 +35,7 @@ use Rattle.journal_rows.specs.Words.{last_sent, last_taken, noted_at, ordered}
 use Rattle.journal_rows.specs.declared.caller.NotedRow.{NotedRow}
 use Rattle.journal_rows.specs.declared.callee.TookRow.{TookRow}
 use Rattle.journal_rows.specs.declared.orders.Command.{Command}
-use Rattle.journal_rows.specs.declared.orders.Command.TheVariants.{Cancel, Restore, Replace, Create, Retry, Fold}
+use Rattle.journal_rows.specs.declared.orders.Command.TheVariants.{Cancel, Restore, Replace, Create, Retry, Fold, Deploy, Correct, Rules}
 use Rattle.journal_rows.specs.declared.orders.OrderedRow.{OrderedRow}
 use Rattle.journal_rows.specs.declared.row.Row.{Row}
 use Rattle.journal_rows.specs.declared.row.Row.TheVariants.{Asked, Sent}
@@ -163,14 +165,14 @@ reached_calls s t r h =
 
 -- ---- a run
 
-run_to : (s : Kept) (q : Request) (i : Inputs) (given : List Response) (rows : List Cell) (ran : Ran) → run_of s.setting q i given rows ≡ ran → CallsTo s.setting.peers (calls_in ran)
-run_to s q i given rows ran is =
+run_to : (s : Kept) (p : List Route) (q : Request) (i : Inputs) (given : List Response) (rows : List Cell) (ran : Ran) → run_of (with_program p s.setting) q i given rows ≡ ran → CallsTo s.setting.peers (calls_in ran)
+run_to s p q i given rows ran is =
     subst (λ r. CallsTo s.setting.peers (calls_in r)) is
-    (each_weaker (IsOnward s.setting.me s.setting.peers q) (λ (c : CallMade). Contains s.setting.peers c.dest) (λ c o. o.peer) (calls_in (run_of s.setting q i given rows))
-    (calls_onward s.setting q i given rows))
+    (each_weaker (IsOnward s.setting.me s.setting.peers q) (λ (c : CallMade). Contains s.setting.peers c.dest) (λ c o. o.peer) (calls_in (run_of (with_program p s.setting) q i given rows))
+    (calls_onward (with_program p s.setting) q i given rows))
 
 pub flight_to : (s : Kept) (f : Flight) (ran : Ran) → flight_run s f ≡ ran → CallsTo s.setting.peers (calls_in ran)
-flight_to s f ran is = run_to s f.request f.inputs (map (answers s) f.numbers) (rows_after (base s) (unfolded s)) ran is
+flight_to s f ran is = run_to s f.program.program f.request f.inputs (map (answers s) f.numbers) (rows_after (base s) (unfolded s)) ran is
 
 -- ---- a flight goes on
 
@@ -338,7 +340,8 @@ module _ (s : Kept) (fits : Fits s) (calls : CallsPeers s) where
   rerun_to : (turns : ℕ) (rows : List Cell) (e : Entry) (given : List Response) → CallsTo s.setting.peers (rerun turns s rows e given).calls
   rerun_to zero rows e given = tt
   rerun_to (suc turns) rows e given =
-      ended_to (run_of s.setting e.request e.inputs given rows) (run_to s e.request e.inputs given rows (run_of s.setting e.request e.inputs given rows) refl)
+      ended_to (run_of (setting_of s.setting e) e.request e.inputs given rows)
+      (run_to s e.under.now.program e.request e.inputs given rows (run_of (setting_of s.setting e) e.request e.inputs given rows) refl)
       (λ slot call. rerun turns s rows e (given ++ answer_at (answers s) (calls_of_made e.made) e.slots slot call ∷ []))
       (λ slot call. rerun_to turns rows e (given ++ answer_at (answers s) (calls_of_made e.made) e.slots slot call ∷ []))
     where
@@ -397,6 +400,9 @@ module _ (s : Kept) (fits : Fits s) (calls : CallsPeers s) where
   ordered_reaches (Retry (OfReply id)) token who i = reaches_by s _ (order_rows s (Retry (OfReply id)) token who i) refl refl (tt, tt)
   ordered_reaches (Retry (OfFetch n)) token who i = reaches_by s _ (order_rows s (Retry (OfFetch n)) token who i) refl refl (tt, tt)
   ordered_reaches (Fold id) token who i = reaches_by s _ (order_rows s (Fold id) token who i) refl refl (tt, tt)
+  ordered_reaches (Deploy p) token who i = reaches_by s _ (order_rows s (Deploy p) token who i) refl refl (tt, tt)
+  ordered_reaches (Correct k p) token who i = reaches_by s _ (order_rows s (Correct k p) token who i) refl refl (tt, tt)
+  ordered_reaches (Rules g) token who i = reaches_by s _ (order_rows s (Rules g) token who i) refl refl (tt, tt)
 
   order_by_reaches : (command : Command) (token who : List ℕ) (i : Inputs) (o : Option OrderRefused) → Stays (order_by s command token who i o)
   order_by_reaches command token who i (Some why) = same

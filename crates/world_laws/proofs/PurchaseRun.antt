@@ -39,7 +39,7 @@ use Rattle.service_events.specs.declared.answers.Arrived.TheVariants.{Done as Co
 use Rattle.service_events.specs.Steps.{new_trace}
 use Rattle.service_events.specs.declared.answers.Posted.TheVariants.{Acked as WasAcked}
 use Rattle.service_events.specs.declared.answers.PostReply.TheVariants.{Acked}
-use Rattle.service_events.proofs.PurchaseExample.{shop_name, bank_name, ok, allow_any, start, call, flight, named, answer, answered as answered_shop, bought, cancelled, remade, trace, paid_trace, paid, unwanted, unpaid}
+use Rattle.service_events.proofs.PurchaseExample.{shop_name, bank_name, ok, start, call, flight, named, answer, answered as answered_shop, bought, cancelled, remade, trace, paid_trace, paid, unwanted, unpaid}
 use Rattle.world_agreement.proofs.PurchaseTogether.{names_differ, at_shop, at_bank, no_name}
 use Rattle.world_agreement.specs.Partners.{HasPartner}
 use Rattle.world_agreement.proofs.ListLemmas.{all_two, one_pair}
@@ -209,7 +209,7 @@ module _ (program : List Route) (token : List ℕ) where
   begins_sound =
       fresh_sound (shop_start ∷ (bank_start ∷ []))
       (one_pair (λ s t. me s ≢ me t) shop_start bank_start (names_differ shop_name bank_name refl))
-      (all_two Fits shop_start bank_start (fits_start shop_setting (allow_any ∷ [])) (fits_start bank_setting (allow_any ∷ [])))
+      (all_two Fits shop_start bank_start (fits_start shop_setting shop_start.began) (fits_start bank_setting bank_start.began))
       (all_two (λ s. All (HasPartner (shop_start ∷ (bank_start ∷ [])) s) s.journal) shop_start bank_start (All-nil _) (All-nil _))
       (all_two (λ (s : Kept). s.flights ≡ []) shop_start bank_start refl refl)
 
@@ -322,7 +322,7 @@ module _ (program : List Route) (token : List ℕ) where
   undone_allowed = all_two IsAllowed shop_acked bank_unpaid shop_allowed bank_allowed
 
   -- and without rules the same order wasn't
-  not_without_rules : IsAllowed (record shop_acked { rules = [] }) → ⊥
+  not_without_rules : IsAllowed (record shop_acked { began = record { text = []; rules = [] } }) → ⊥
   not_without_rules h = no_rule h.1.1.1.1.1.0
     where
       no_rule : Deny 0 ≡ Allow 1 → ⊥

@@ -1,11 +1,12 @@
 -- What the events of repair owe to the world: messages, posts, steps, orders and abandonments.
-use Rattle.std.proofs.Common.{◌≡◌, ℕ, ◌<◌, ◌&&◌, Bool, true, false, cond, not, List, [], ◌∷◌, ◌++◌, Option, Some, None, IfSome, All, Contains, Result, Ok, Err, find, is_some, nat_eq, nat_lt, option_map, refl, sym, ap, ◌∙◌, subst, append-nil, arith, eqb-true, ltb-true}
+use Rattle.std.proofs.Common.{◌≡◌, ℕ, ◌<◌, ◌&&◌, Bool, true, false, cond, not, List, [], ◌∷◌, ◌++◌, Option, Some, None, IfSome, All, Contains, Result, Ok, Err, find, is_some, map, if◌then◌else◌, nat_eq, nat_lt, option_map, refl, sym, ap, ◌∙◌, subst, append-nil, arith, eqb-true, ltb-true}
 use Rattle.std.proofs.lemmas.Bool.{cond_both, and_parts}
-use Rattle.std.proofs.lemmas.List.Elements.{All-nil, All-cons, All-append, All-filter, Contains-append_right, Contains-push}
+use Rattle.std.proofs.lemmas.List.Elements.{All-nil, All-cons, All-head, All-tail, All-append, All-filter, Contains-append_right, Contains-push}
 use Rattle.lang_base.specs.Texts.{same_text}
 use Rattle.lang_core.specs.declared.ids.Origin.TheVariants.{Call}
 use Rattle.lang_core.specs.declared.inputs.Inputs.{Inputs}
 use Rattle.lang_core.specs.declared.request.Request.{Request}
+use Rattle.handler_run.specs.HandedOn.{Numbered}
 use Rattle.request_log.specs.Entries.{has_id, find_call}
 use Rattle.request_log.specs.Records.{Record, record_of}
 use Rattle.request_log.specs.declared.entry.Entry.{Entry}
@@ -24,7 +25,7 @@ use Rattle.repair_messages.specs.declared.posts.PostName.TheVariants.{Call as Of
 use Rattle.journal_rows.specs.Words.{last_sent, seen_acked, last_seen, last_noted, noted_at, ordered}
 use Rattle.journal_rows.specs.declared.caller.NotedRow.{NotedRow}
 use Rattle.journal_rows.specs.declared.orders.Command.{Command}
-use Rattle.journal_rows.specs.declared.orders.Command.TheVariants.{Cancel, Restore, Replace, Create, Retry, Fold}
+use Rattle.journal_rows.specs.declared.orders.Command.TheVariants.{Cancel, Restore, Replace, Create, Retry, Fold, Deploy, Correct, Rules}
 use Rattle.journal_rows.specs.declared.orders.OrderedRow.{OrderedRow}
 use Rattle.journal_rows.specs.declared.row.Row.{Row}
 use Rattle.journal_rows.specs.declared.row.Row.TheVariants.{Asked, Answered, Sent, Noted, Ordered}
@@ -33,13 +34,14 @@ use Rattle.call_registers.specs.Replies.{reply}
 use Rattle.call_registers.specs.declared.register.Hold.{Hold}
 use Rattle.call_registers.specs.declared.register.Register.{Register}
 use Rattle.call_registers.specs.declared.reply.Reply.{Reply}
+use Rattle.flights.specs.Corrections.{corrected_flight}
 use Rattle.flights.specs.declared.flight.Flight.{Flight}
 use Rattle.service_events.specs.Arriving.{abandoned}
 use Rattle.service_events.specs.Calls.{noted, all_deleted, seen_answer}
 use Rattle.service_events.specs.Event.{event}
 use Rattle.service_events.specs.Fits.{Fits, HasAnswered as HasItsAnswer, HasNoted, HasSeen, sent_by}
-use Rattle.service_events.specs.Messages.{hear_new, hear_rule, take_new, take_rule, origin_of, is_known, is_too_much, ack_of, acked_row, took_row, acked_again, taken_by, taken, take_admitted, take_event, confirm_of, confirmed_row, noted_row, heard, token_taken_where, take_token_event, fetched_row, fetched, had_call, has_call, had, is_ack_of, is_given_to, replies_to, is_now, hold_of, held_back, held_where, posted}
-use Rattle.service_events.specs.Orders.{order_rows, carried_out, order_by, order_where, refused}
+use Rattle.service_events.specs.Messages.{created_row, hear_new, hear_rule, take_new, take_rule, origin_of, is_known, is_too_much, ack_of, acked_row, took_row, acked_again, taken_by, taken, take_admitted, take_event, confirm_of, confirmed_row, noted_row, heard, token_taken_where, take_token_event, fetched_row, fetched, had_call, has_call, had, is_ack_of, is_given_to, replies_to, is_now, hold_of, held_back, held_where, posted}
+use Rattle.service_events.specs.Orders.{brought, order_rows, carried_out, order_by, order_where, refused}
 use Rattle.service_events.specs.Posts.{set_message, token_message, token_post, fetch_message, fetch_post, write_post}
 use Rattle.service_events.specs.State.{Kept, After, after, me, answers, flight_of, has_flight, next_id, base, unfolded}
 use Rattle.service_events.specs.Steps.{Stale, new_record, sent_rows, answer_rows, stepped, stale_in, step_by}
@@ -95,6 +97,18 @@ own_turns services s t rows journal setting own flights = record {
   flights = flights;
 }
 
+-- a flight stands whatever its program is
+corrected_stands : (services : List Kept) (s : Kept) (m : Numbered) (f : Flight) (b : Bool) → FlightStands services s f → FlightStands services s (if b then record f { program = m } else f)
+corrected_stands services s m f true stands = stands
+corrected_stands services s m f false stands = stands
+
+corrected_stand : (services : List Kept) (s : Kept) (k : ℕ) (m : Numbered) (fs : List Flight) → All (FlightStands services s) fs → All (FlightStands services s) (map (corrected_flight k m) fs)
+corrected_stand services s k m [] stand = All-nil (FlightStands services s)
+corrected_stand services s k m (f ∷ fs) stand =
+    All-cons (FlightStands services s) (corrected_flight k m f) (map (corrected_flight k m) fs)
+    (corrected_stands services s m f (nat_eq f.program.number k) (All-head (FlightStands services s) f fs stand))
+    (corrected_stand services s k m fs (All-tail (FlightStands services s) f fs stand))
+
 -- only registers and replies change
 quiet_turns : (services : List Kept) (s t : Kept) → t.journal ≡ s.journal → t.setting ≡ s.setting → t.flights ≡ s.flights → FlightsStand services s → Turns services s t
 quiet_turns services s t journal setting same flights = record {
@@ -146,6 +160,10 @@ module _ (services : List Kept) (s : Kept) (fits : Fits s) (flights : FlightsSta
   ordered_turns (Retry (OfReply id)) token who i = own_turns services s _ (order_rows s (Retry (OfReply id)) token who i) refl refl (tt, tt) flights
   ordered_turns (Retry (OfFetch n)) token who i = own_turns services s _ (order_rows s (Retry (OfFetch n)) token who i) refl refl (tt, tt) flights
   ordered_turns (Fold id) token who i = own_turns services s _ (order_rows s (Fold id) token who i) refl refl (tt, tt) flights
+  ordered_turns (Deploy p) token who i = own_turns services s _ (order_rows s (Deploy p) token who i) refl refl (tt, tt) flights
+  ordered_turns (Correct k p) token who i =
+      own_turns services s _ (order_rows s (Correct k p) token who i) refl refl (tt, tt) (corrected_stand services s k (brought s p) s.flights flights)
+  ordered_turns (Rules g) token who i = own_turns services s _ (order_rows s (Rules g) token who i) refl refl (tt, tt) flights
 
   order_by_turns : (command : Command) (token who : List ℕ) (i : Inputs) (o : Option OrderRefused) → Turns services s (order_by s command token who i o).service
   order_by_turns command token who i (Some why) = no_turn services s flights
@@ -201,7 +219,7 @@ module _ (services : List Kept) (s : Kept) (fits : Fits s) (flights : FlightsSta
         takes_by (taken_by s set i (Some e) d) (took_row s set ∷ []) (Some (take_rule s set)) refl refl refl
         (All-cons (HasPartner services s) (took_row s set) [] took_partner (All-nil (HasPartner services s)))
     takes_new i None (Some q) =
-        let asks : Row = Asked (record { id = next_id s; origin = origin_of set; request = q; inputs = i }) in
+        let asks : Row = created_row s set q i in
         takes_by (taken_by s set i None (Some q)) (took_row s set ∷ (asks ∷ [])) (Some (take_rule s set)) refl refl refl
         (All-cons (HasPartner services s) (took_row s set) (asks ∷ []) took_partner (All-cons (HasPartner services s) asks [] tt (All-nil (HasPartner services s))))
     takes_new i None None =

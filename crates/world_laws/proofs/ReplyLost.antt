@@ -1,7 +1,7 @@
 -- The same purchase where the bank's reply is lost: the shop answers at once that nothing came, and a post, a token, a fetch and a step make
 -- good.
 use Rattle.std.proofs.Common.{◌≡◌, ℕ, Bool, true, false, ◌&&◌, List, [], ◌∷◌, ◌++◌, Option, Some, None, Ok, refl, ap, ◌∙◌, arith, if◌then◌else◌, map, nat_eq}
-use Rattle.std.specs.Coded.{coded_bool, coded_list}
+use Rattle.std.specs.Coded.{coded_bool, coded_list, coded_option}
 use Rattle.std.specs.List.{list_all}
 use Rattle.lang_base.specs.Equal.{equal}
 use Rattle.lang_base.proofs.EqualLemmas.{equal-true, equal-same}
@@ -14,14 +14,15 @@ use Rattle.lang_core.specs.declared.request.Response.{Response}
 use Rattle.lang_core.specs.declared.trace.CallMade.{CallMade}
 use Rattle.lang_core.specs.declared.trace.Trace.{Trace}
 use Rattle.recorded_inputs.specs.Drawing.{word_after}
-use Rattle.handler_run.specs.Handlers.{run_of}
+use Rattle.handler_run.specs.HandedOn.{block_code}
+use Rattle.handler_run.specs.Handlers.{handler_of, run_of}
 use Rattle.handler_run.specs.declared.state.Ran.TheVariants.{Done, Wants}
 use Rattle.request_log.specs.Entries.{is_alive}
 use Rattle.request_log.specs.declared.entry.Entry.{Entry}
 use Rattle.request_log.specs.declared.entry.Made.{Made}
 use Rattle.local_repair.specs.Current.{Consumed}
 use Rattle.local_repair.specs.Steps.{tentative, answer_at, is_new_answer, remade}
-use Rattle.local_repair.specs.Tests.{gives, has_current, is_current}
+use Rattle.local_repair.specs.Tests.{gives, has_current, has_its_handler, is_current}
 use Rattle.local_repair.specs.declared.stepped.Stepped.{Stepped}
 use Rattle.local_repair.specs.declared.stepped.Stepped.TheVariants.{Idle, Ran as RanAgain}
 use Rattle.repair_messages.specs.declared.messages.Ack.{Ack}
@@ -56,35 +57,39 @@ use Rattle.world_laws.proofs.PurchaseRun.{buy, pay, i, false_by, shop_setting, s
 
 -- ---- what a step finds
 
-all_hold : {a b c d e : Bool} → a ≡ true → b ≡ true → c ≡ true → d ≡ true → e ≡ true → (a && b && c && d && e) ≡ true
-all_hold ha hb hc hd he = rw ha (rw hb (rw hc (rw hd he)))
+all_hold : {a b c d e f : Bool} → a ≡ true → b ≡ true → c ≡ true → d ≡ true → e ≡ true → f ≡ true → (a && b && c && d && e && f) ≡ true
+all_hold ha hb hc hd he hf = rw ha (rw hb (rw hc (rw hd (rw he hf))))
 
-last_fails : (a b c d e : Bool) → e ≡ false → (a && b && c && d && e) ≡ false
-last_fails false b c d e h = refl
-last_fails true false c d e h = refl
-last_fails true true false d e h = refl
-last_fails true true true false e h = refl
-last_fails true true true true e h = h
+fifth_fails : (a b c d e f : Bool) → e ≡ false → (a && b && c && d && e && f) ≡ false
+fifth_fails false b c d e f h = refl
+fifth_fails true false c d e f h = refl
+fifth_fails true true false d e f h = refl
+fifth_fails true true true false e f h = refl
+fifth_fails true true true true e f h = ap (λ (x : Bool). x && f) h
 
 -- an entry that consumed other answers than its calls have now is stale
 answers_apart : {m : Made} (consumed : Consumed) (rows : List Cell) (e : Entry)
     → e.made ≡ Some m → equal (coded_list response.the_row.coded) m.trace.answers (map consumed e.slots) ≡ false → is_current consumed rows e ≡ false
 answers_apart {m = m} consumed rows e made apart =
     ap (has_current consumed rows e) made
-    ∙ last_fails (equal coded_bool m.alive (is_alive e)) (nat_eq m.version e.version) (equal request.the_row.coded m.request e.request)
-    (list_all (gives rows) m.trace.reads) (equal (coded_list response.the_row.coded) m.trace.answers (map consumed e.slots)) apart
+    ∙ fifth_fails (equal coded_bool m.alive (is_alive e)) (nat_eq m.version e.version) (equal request.the_row.coded m.request e.request)
+    (list_all (gives rows) m.trace.reads) (equal (coded_list response.the_row.coded) m.trace.answers (map consumed e.slots)) (has_its_handler e) apart
 
 -- a service whose one entry that isn't folded is current has nothing to run again
 rests : {e : Entry} {m : Made} (s : Kept) → unfolded s ≡ e ∷ [] → e.made ≡ Some m
     → equal coded_bool m.alive (is_alive e) ≡ true → nat_eq m.version e.version ≡ true → equal request.the_row.coded m.request e.request ≡ true
     → list_all (gives (base s)) m.trace.reads ≡ true → equal (coded_list response.the_row.coded) m.trace.answers (map (answers s) e.slots) ≡ true
-    → step_event s ≡ after s Idle
-rests {e = e} {m = m} s only made alive version asked reads heard =
+    → has_its_handler e ≡ true → step_event s ≡ after s Idle
+rests {e = e} {m = m} s only made alive version asked reads heard handler =
     ap (λ es. step_by s (stale_in (answers s) (base s) es)) only
     ∙ ap (λ (b : Bool). step_by s (if b then None else Some (record { entry = e; rows = base s }))) current
   where
     current : is_current (answers s) (base s) e ≡ true
-    current = ap (has_current (answers s) (base s) e) made ∙ all_hold alive version asked reads heard
+    current = ap (has_current (answers s) (base s) e) made ∙ all_hold alive version asked reads heard handler
+
+-- an entry whose record was made under its own program
+own_handler : (program : List Route) (q : Request) → equal (coded_option block_code) (handler_of program q) (handler_of program q) ≡ true
+own_handler program q = equal-same (coded_option block_code) (handler_of program q) (handler_of program q) refl
 
 -- what a step's turn makes of what the service did
 abbrev stepped_turn : List ℕ → World → After Stepped → Turn
@@ -328,7 +333,7 @@ module _ (program : List Route) (token : List ℕ) where
   shop_rests =
       ap (stepped_turn shop_name after_step)
       (rests {e = mended_entry} {m = made} mended refl refl alive_still refl same_request refl
-      (ap (equal (coded_list response.the_row.coded) (ok ∷ [])) hears_ok ∙ same_answers))
+      (ap (equal (coded_list response.the_row.coded) (ok ∷ [])) hears_ok ∙ same_answers) (own_handler program buy))
 
   same_pay : equal request.the_row.coded pay pay ≡ true
   same_pay = equal-same request.the_row.coded pay pay refl
@@ -339,4 +344,4 @@ module _ (program : List Route) (token : List ℕ) where
   bank_rests : turn after_step (Step bank_name)
       ≡ happens after_step bank_name (RepairStep Idle) None
   unfolding turn
-  bank_rests = ap (stepped_turn bank_name after_step) (rests settled refl refl alive_still refl same_pay refl no_answers)
+  bank_rests = ap (stepped_turn bank_name after_step) (rests settled refl refl alive_still refl same_pay refl no_answers (own_handler program pay))
