@@ -3,6 +3,7 @@ use Rattle.std.proofs.Common.{◌≡◌, ℕ, List, Option, Some, None, Result, 
 use Rattle.lang_base.specs.declared.memory.NoMemory.{NoMemory as LacksMemory}
 use Rattle.lang_core.specs.declared.inputs.Inputs.{Inputs}
 use Rattle.journal_rows.specs.declared.orders.Command.{Command}
+use Rattle.order_texts.specs.declared.refused.TextFault.{TextFault}
 use Rattle.repair_messages.specs.declared.refusals.Refusal.{Refusal}
 use Rattle.service_events.specs.State.{Kept, me}
 use Rattle.service_events.specs.declared.answers.Ordered.{Ordered}
@@ -11,7 +12,7 @@ use Rattle.http_front.specs.declared.message.WireResponse.{WireResponse}
 use Rattle.wire_fields.specs.declared.console.ConsoleRequest.{ConsoleRequest}
 use Rattle.admin_console.specs.Answers.{IsAnswered, IsDone, IsLeft, IsUnanswered, Makes, Waits}
 use Rattle.admin_console.specs.Asking.{asked_in}
-use Rattle.admin_console.specs.Replies.{bad, order_reply, report_reply}
+use Rattle.admin_console.specs.Replies.{bad, fault_reply, order_reply, report_reply}
 use Rattle.admin_console.specs.Reports.{report_of}
 use Rattle.admin_console.specs.declared.asking.Asked.{Asked}
 use Rattle.admin_console.specs.declared.asking.Asked.TheVariants as asked
@@ -37,6 +38,11 @@ module _ {Desk : Type 0} (kept : Desk → Kept) (waits : Waits Desk) (Made : Mak
       → IfOk reply (λ (response : WireResponse). IsDone kept waits Made desk (Some (asked.Report report)) who i response desk)
   told_report report who s why (Ok response) lent says told = (refl, told ∙ ap₂ (λ (w : Option Refusal) (k : Kept). report_reply (report_of report w k)) says lent)
   told_report report who s why (Err lacks) lent says told = tt
+
+  pub told_fault : (fault : TextFault) (who : List ℕ) (reply : Reply) → IfOk reply (λ (response : WireResponse). response ≡ fault_reply fault)
+      → IfOk reply (λ (response : WireResponse). IsDone kept waits Made desk (Some (asked.IllText fault)) who i response desk)
+  told_fault fault who (Ok response) told = (refl, told)
+  told_fault fault who (Err lacks) told = tt
 
   pub told_ill : (who : List ℕ) (reply : Reply) → IfOk reply (λ (response : WireResponse). response ≡ bad)
       → IfOk reply (λ (response : WireResponse). IsDone kept waits Made desk None who i response desk)
@@ -64,6 +70,7 @@ module _ {Desk : Type 0} (Made : Makes Desk) (desk : Desk) (i : Inputs) where
   left_as_it_was None who = refl
   left_as_it_was (Some (asked.Order token command)) who = inl refl
   left_as_it_was (Some (asked.Report report)) who = refl
+  left_as_it_was (Some (asked.IllText fault)) who = refl
 
   pub unanswered : (after : Desk) (what : Option Asked) (who : List ℕ) (request : ConsoleRequest) (reply : Reply) → what ≡ asked_in request → who ≡ request.who
       → OnErr reply (IsLeft Made desk what who i after)

@@ -11,10 +11,10 @@ use Rattle.service_events.specs.declared.refusals.OrderRefused.{OrderRefused}
 use Rattle.http_front.specs.declared.message.WireResponse.{WireResponse}
 use Rattle.wire_fields.specs.declared.console.ConsoleRequest.{ConsoleRequest}
 use Rattle.admin_console.specs.Asking.{asked_in}
-use Rattle.admin_console.specs.Replies.{bad, order_reply, report_reply}
+use Rattle.admin_console.specs.Replies.{bad, fault_reply, order_reply, report_reply}
 use Rattle.admin_console.specs.Reports.{report_of}
 use Rattle.admin_console.specs.declared.asking.Asked.{Asked}
-use Rattle.admin_console.specs.declared.asking.Asked.TheVariants.{Order, Report}
+use Rattle.admin_console.specs.declared.asking.Asked.TheVariants.{IllText, Order, Report}
 
 -- what an order made at a desk is: the command, its token, its operator and its inputs, how it is answered, and the desk then
 abbrev pub Makes : Type 0 → Type 1
@@ -35,11 +35,12 @@ pub record IsOrdered {Desk : Type 0} (kept : Desk → Kept) (Made : Makes Desk) 
   pub told : response ≡ order_reply (me (kept after)) answer
 
 -- What is asked is done. A report is of the service that the desk has at that moment, and changes nothing; neither does a body
--- that is ill.
+-- that is ill, nor a text that is none.
 abbrev pub IsDone : {Desk : Type 0} → (Desk → Kept) → Waits Desk → Makes Desk → Desk → Option Asked → List ℕ → Inputs → WireResponse → Desk → Type 0
 IsDone kept waits Made desk None who i response after = (after ≡ desk) × (response ≡ bad)
 IsDone kept waits Made desk (Some (Order token command)) who i response after = IsOrdered kept Made desk command token who i response after
 IsDone kept waits Made desk (Some (Report report)) who i response after = (after ≡ desk) × (response ≡ report_reply (report_of report (waits desk) (kept desk)))
+IsDone kept waits Made desk (Some (IllText fault)) who i response after = (after ≡ desk) × (response ≡ fault_reply fault)
 
 -- what an operator's request is answered
 abbrev pub IsAnswered : {Desk : Type 0} → (Desk → Kept) → Waits Desk → Makes Desk → Desk → ConsoleRequest → Inputs → WireResponse → Desk → Type 0

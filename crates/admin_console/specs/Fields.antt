@@ -38,6 +38,13 @@ number_at name json = option_and_then whole_number (get name json)
 abbrev pub who_at : List ℕ → Data → Option (List ℕ)
 who_at name json = option_and_then (passing is_who) (text_at name json)
 
+-- at most 65,536 bytes
+abbrev pub is_short : List ℕ → Bool
+is_short text = nat_le (length text) 65536
+
+abbrev pub short_text_at : List ℕ → Data → Option (List ℕ)
+short_text_at name json = option_and_then (passing is_short) (text_at name json)
+
 -- the number of a request, or null for none
 abbrev pub neighbour : Data → Option (Option ℕ)
 neighbour value = if is_some (as_null value) then Some None else option_map Some (whole_number value)
@@ -57,12 +64,8 @@ is_asked_path path = is_path path && not (starts_with nat_eq path (codes "/aire/
 abbrev pub path_at : Data → Option (List ℕ)
 path_at json = option_and_then (passing is_asked_path) (text_at (codes "path") json)
 
--- at most 65,536 bytes
-abbrev pub is_body : List ℕ → Bool
-is_body text = nat_le (length text) 65536
-
 abbrev pub body_at : Data → Option (List ℕ)
-body_at json = option_and_then (passing is_body) (text_at (codes "body") json)
+body_at json = short_text_at (codes "body") json
 
 -- ---- posts
 

@@ -1,27 +1,36 @@
 -- What an operator is replied: JSON without spaces, keys in the order of their bytes.
-use Rattle.std.specs.Prelude.{ℕ, ◌++◌, List, Result, Ok, Err, codes, decimal}
-use Rattle.request_names.specs.Ids.{id_text}
-use Rattle.journal_rows.specs.declared.orders.About.{About}
-use Rattle.journal_rows.specs.declared.orders.About.TheVariants.{Request, Post}
+use Rattle.std.specs.Prelude.{ℕ, ◌++◌, List, [], Result, Ok, Err, codes, decimal}
+use Rattle.order_texts.specs.declared.refused.TextFault.{TextFault}
+use Rattle.order_texts.specs.declared.refused.TextFault.TheVariants.{Program, Rules}
 use Rattle.service_events.specs.declared.answers.Ordered.{Ordered}
 use Rattle.service_events.specs.declared.refusals.OrderRefused.{OrderRefused}
-use Rattle.service_reports.specs.HandedOn.{post_name_text}
+use Rattle.service_reports.specs.HandedOn.{about_text}
 use Rattle.serde_json.specs.Data.{Data, string, object, no_members, member}
 use Rattle.serde_json.specs.Written.{compact_text}
+use Rattle.http_front.specs.declared.header.AireHeader.TheVariants as headers
 use Rattle.http_front.specs.declared.message.WireResponse.{WireResponse}
+use Rattle.wire_fields.specs.Heads.{with_field}
 use Rattle.wire_words.specs.Refusals.{Told, order_told}
-use Rattle.wire_bytes.specs.Console.{console_refusal, console_reply}
+use Rattle.wire_bytes.specs.Console.{as_json, console_refusal, console_reply, refusal_json}
 
 -- the body was ill: status 400, the word `bad`, and as JSON number 0 and that word
 abbrev pub bad : WireResponse
 bad = console_refusal (codes "bad") 0
 
+-- a refusal that only an operator is told, whose word isn't of the table: with this status, this text beside the JSON, and this word and number in it
+abbrev pub own_refusal : ℕ → List ℕ → List ℕ → ℕ → WireResponse
+own_refusal status field word n = record { status = status; head = with_field (as_json []) (headers.Refused, field); body = refusal_json word n }
+
+-- its text is the word and the number
+abbrev pub own_numbered : ℕ → List ℕ → ℕ → WireResponse
+own_numbered status word n = own_refusal status (word ++ (codes " " ++ decimal n)) word n
+
 -- ---- orders
 
--- the request `S/N`, or the post `call:N` or `reply:N`
-abbrev pub about_text : List ℕ → About → List ℕ
-about_text me (Request id) = id_text me id
-about_text me (Post name) = post_name_text name
+-- the text of an order is no program, or no rules: status 400, and where
+abbrev pub fault_reply : TextFault → WireResponse
+fault_reply (Program at) = own_numbered 400 (codes "program") at
+fault_reply (Rules line) = own_numbered 400 (codes "rules") line
 
 -- what an order was about, and the rule that allowed it
 abbrev pub accepted_json : List ℕ → Ordered → List ℕ

@@ -7,7 +7,7 @@ ghost use Rattle.admin_console.specs.declared.asking.Asked.TheVariants.{Order};
 
 use crate::asking::{Asked, asked_in};
 use crate::desk::Orders;
-use crate::replies::{bad, order_reply};
+use crate::replies::{bad, fault_reply, order_reply};
 use crate::reports::service_report;
 use http_front::WireResponse;
 use journal_rows::Command;
@@ -35,10 +35,11 @@ fn make_order<O: Orders>(
 }
 
 /// Does what was read of an operator's request, and makes its reply; of a body that was ill nothing was read. An order is made,
-/// once, and then its answer is told; a report is of the service as it is; a body that is ill is told so, and changes nothing.
+/// once, and then its answer is told; a report is of the service as it is; a body that is ill is told so, as is a text that is none, and
+/// changes nothing.
 /// Where there is no memory nothing changed, or an order was made and couldn't be told: asked again under its token, it is
 /// answered as then. No live answer is made.
-#[tactic(auto, using(crate::proofs::AnswerLemmas::told_report, crate::proofs::AnswerLemmas::told_ill))]
+#[tactic(auto, using(crate::proofs::AnswerLemmas::told_report, crate::proofs::AnswerLemmas::told_fault, crate::proofs::AnswerLemmas::told_ill))]
 pub fn carry_out<O: Orders>(
     alloc: Global,
     desk: &mut O,
@@ -57,6 +58,7 @@ pub fn carry_out<O: Orders>(
             alloc, desk, token, command, who, inputs,
         ),
         Some(Asked::Report(which)) => service_report(alloc, desk.service(), desk.waits(), which),
+        Some(Asked::IllText(fault)) => fault_reply(alloc, fault),
         None => bad(alloc),
     }
 }

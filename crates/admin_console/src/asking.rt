@@ -1,13 +1,14 @@
 // What an operator asks of a service.
 ghost use Rattle.std.specs.Prelude.{◌≡◌, IfOk};
 ghost use Rattle.serde_json.specs.View.{view};
-ghost use Rattle.admin_console.specs.Asking.{asked_at, asked_in, call_at, cancel_at, command_at, create_at, fold_at, is_of_the_run, neighbours_at, order_at, replace_at, report_named, request_at, restore_at, retry_at};
+ghost use Rattle.admin_console.specs.Asking.{any_order_at, asked_at, asked_in, asked_with, call_at, cancel_at, command_at, create_at, fold_at, given_at, given_command_at, given_text_at, has_text, is_of_the_run, neighbours_at, order_at, replace_at, report_named, request_at, restore_at, retry_at, text_order_at};
 
 use crate::fields::{
-    body_at, method_at, neighbour_at, number_at, object_in, path_at, post_at, who_at,
+    body_at, method_at, neighbour_at, number_at, object_in, path_at, post_at, short_text_at, who_at,
 };
 use journal_rows::Command;
 use lang_core::{Method, NoMemory, Request, Text, ThinSeq};
+use order_texts::{TextFault, TextOrder, command_given};
 use serde_json::Value;
 use std::alloc::Global;
 use wire_fields::{ConsoleRequest, ConsoleWord};
@@ -21,6 +22,8 @@ pub enum Report {
     Log,
     /// Its rows.
     Rows,
+    /// Its programs and its rules.
+    Programs,
 }
 
 /// What an operator asks of one service.
@@ -30,16 +33,18 @@ pub enum Asked {
     Order { token: Text, command: Command },
     /// A report.
     Report(Report),
+    /// An order that comes with a text, which is none.
+    IllText(TextFault),
 }
 
-/// Whether the word is one that the run answers, and not a desk: `audit` and `stop` are of all services, and `preview` is of one,
-/// but is tried on a copy of it, without its lock.
+/// Whether the word is one that the run answers, and not a desk: `audit` and `stop` are of all services, and `preview` and
+/// `rehearse` are of one, but are tried on a copy of it, without its lock.
 pub fn is_of_the_run(word: ConsoleWord) -> bool
     ensures { result ≡ is_of_the_run word }
 {
     matches!(
         word,
-        ConsoleWord::Preview | ConsoleWord::Audit | ConsoleWord::Stop
+        ConsoleWord::Preview | ConsoleWord::Rehearse | ConsoleWord::Audit | ConsoleWord::Stop
     )
 }
 
@@ -176,6 +181,85 @@ fn order_at(alloc: Global, word: ConsoleWord, object: &Value) -> Result<Option<A
     }
 }
 
+// ---- orders that come with a text
+
+fn has_text(word: ConsoleWord) -> bool
+    ensures { result ≡ has_text word }
+{
+    matches!(
+        word,
+        ConsoleWord::Deploy | ConsoleWord::Correct | ConsoleWord::Rules
+    )
+}
+
+fn text_order_at(word: ConsoleWord, object: &Value) -> Option<TextOrder>
+    ensures { result ≡ text_order_at word (view object.now) }
+{
+    match word {
+        ConsoleWord::Deploy => Some(TextOrder::Deploy),
+        ConsoleWord::Correct => Some(TextOrder::Correct(number_at(object, "number")?)),
+        ConsoleWord::Rules => Some(TextOrder::Rules),
+        _ => None,
+    }
+}
+
+fn given_text_at(alloc: Global, word: ConsoleWord, object: &Value) -> Result<Option<Text>, NoMemory>
+    ensures { IfOk result (λ text. text ≡ given_text_at word (view object.now)) }
+{
+    match word {
+        ConsoleWord::Rules => short_text_at(alloc, object, "rules"),
+        _ => short_text_at(alloc, object, "program"),
+    }
+}
+
+// The order that is made of its text, or where that is none.
+fn given_command_at(
+    alloc: Global,
+    word: ConsoleWord,
+    object: &Value,
+) -> Result<Option<Result<Command, TextFault>>, NoMemory>
+    ensures { IfOk result (λ given. given ≡ given_command_at word (view object.now)) }
+{
+    let Some(order) = text_order_at(word, object) else {
+        return Ok(None);
+    };
+    let Some(text) = given_text_at(alloc, word, object)? else {
+        return Ok(None);
+    };
+    Ok(Some(command_given(alloc, order, &text)?))
+}
+
+fn asked_with(token: Text, given: Result<Command, TextFault>) -> Asked
+    ensures { result ≡ asked_with token given }
+{
+    match given {
+        Ok(command) => Asked::Order { token, command },
+        Err(fault) => Asked::IllText(fault),
+    }
+}
+
+fn given_at(alloc: Global, word: ConsoleWord, object: &Value) -> Result<Option<Asked>, NoMemory>
+    ensures { IfOk result (λ asked. asked ≡ given_at word (view object.now)) }
+{
+    let Some(token) = who_at(alloc, object, "token")? else {
+        return Ok(None);
+    };
+    match given_command_at(alloc, word, object)? {
+        Some(given) => Ok(Some(asked_with(token, given))),
+        None => Ok(None),
+    }
+}
+
+fn any_order_at(alloc: Global, word: ConsoleWord, object: &Value) -> Result<Option<Asked>, NoMemory>
+    ensures { IfOk result (λ asked. asked ≡ any_order_at word (view object.now)) }
+{
+    if has_text(word) {
+        given_at(alloc, word, object)
+    } else {
+        order_at(alloc, word, object)
+    }
+}
+
 // ---- all words
 
 fn report_named(word: ConsoleWord) -> Option<Report>
@@ -185,6 +269,7 @@ fn report_named(word: ConsoleWord) -> Option<Report>
         ConsoleWord::Notices => Some(Report::Notices),
         ConsoleWord::Log => Some(Report::Log),
         ConsoleWord::Rows => Some(Report::Rows),
+        ConsoleWord::Programs => Some(Report::Programs),
         _ => None,
     }
 }
@@ -194,7 +279,7 @@ fn asked_at(alloc: Global, word: ConsoleWord, object: &Value) -> Result<Option<A
 {
     match report_named(word) {
         Some(which) => Ok(Some(Asked::Report(which))),
-        None => order_at(alloc, word, object),
+        None => any_order_at(alloc, word, object),
     }
 }
 
@@ -204,9 +289,13 @@ fn asked_at(alloc: Global, word: ConsoleWord, object: &Value) -> Result<Option<A
 /// - `replace`: these, `method`, `path` and `body`;
 /// - `create`: `token`, `before` and `after`, each the number of a request or null, `who`, `method`, `path` and `body`;
 /// - `retry`: `token` and `name`, `call:N` or `reply:N`;
-/// - `notices`, `log` and `rows`: none.
+/// - `deploy`: `token` and `program`, the text of a program;
+/// - `correct`: these, and `number`, that of the program that it corrects;
+/// - `rules`: `token` and `rules`, the text of rules;
+/// - `notices`, `log`, `rows` and `programs`: none.
 ///
-/// None exactly where the body is no such object, or the word is one of the run.
+/// None exactly where the body is no such object, or the word is one of the run. A text is read last, and it is told where it is
+/// none.
 pub fn asked_in(alloc: Global, request: &ConsoleRequest) -> Result<Option<Asked>, NoMemory>
     ensures { IfOk result (λ asked. asked ≡ asked_in request.now) }
 {

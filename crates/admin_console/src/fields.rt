@@ -3,7 +3,7 @@ ghost use Rattle.std.specs.Prelude.{◌≡◌, IfOk};
 ghost use Rattle.std.specs.Option.{option_map};
 ghost use Rattle.serde_json.specs.Read.{read};
 ghost use Rattle.serde_json.specs.View.{view};
-ghost use Rattle.admin_console.specs.Fields.{at_colon, body_at, is_asked_path, method_at, neighbour_at, number_at, object_in, path_at, post_at, post_named, post_of_kind, text_at, who_at};
+ghost use Rattle.admin_console.specs.Fields.{at_colon, body_at, is_asked_path, method_at, neighbour_at, number_at, object_in, path_at, post_at, post_named, post_of_kind, short_text_at, text_at, who_at};
 
 use lang_core::{LONGEST_TEXT, Method, NoMemory, Text, is_path, is_who, method_named};
 use repair_messages::PostName;
@@ -64,6 +64,21 @@ pub fn who_at(alloc: Global, object: &Value, name: &str) -> Result<Option<Text>,
     }
 }
 
+/// A text of at most 65,536 bytes.
+pub fn short_text_at(alloc: Global, object: &Value, name: &str) -> Result<Option<Text>, NoMemory>
+    ensures { IfOk result (λ short. short ≡ short_text_at name.now (view object.now)) }
+{
+    let Some(text) = text_at(object, name) else {
+        return Ok(None);
+    };
+    let text = Text::of(alloc, text)?;
+    if text.len() <= LONGEST_TEXT {
+        Ok(Some(text))
+    } else {
+        Ok(None)
+    }
+}
+
 /// The number of a request; `Some(None)` where the field is null.
 pub fn neighbour_at(object: &Value, name: &str) -> Option<Option<u64>>
     ensures { result ≡ neighbour_at name.now (view object.now) }
@@ -105,19 +120,10 @@ pub fn path_at(alloc: Global, object: &Value) -> Result<Option<Text>, NoMemory>
     }
 }
 
-/// A text of at most 65,536 bytes.
 pub fn body_at(alloc: Global, object: &Value) -> Result<Option<Text>, NoMemory>
     ensures { IfOk result (λ body. body ≡ body_at (view object.now)) }
 {
-    let Some(text) = text_at(object, "body") else {
-        return Ok(None);
-    };
-    let body = Text::of(alloc, text)?;
-    if body.len() <= LONGEST_TEXT {
-        Ok(Some(body))
-    } else {
-        Ok(None)
-    }
+    short_text_at(alloc, object, "body")
 }
 
 // ---- posts

@@ -1,63 +1,88 @@
-// The preview of a cancellation, for an operator.
-ghost use Rattle.std.specs.Prelude.{◌≡◌, ◌++◌, Err, IfOk, codes, decimal};
-ghost use Rattle.wire_bytes.specs.Console.{refusal_json};
-ghost use Rattle.admin_console.specs.Previews.{IsPreviewReply, TellsShown, conflict, previewed_in, shown_reply};
+// What an order would come to, for an operator.
+ghost use Rattle.std.specs.Prelude.{◌≡◌, Err, IfOk};
+ghost use Rattle.serde_json.specs.View.{view};
+ghost use Rattle.admin_console.specs.Previews.{TellsShown, cancellation_at, correction_of, rehearsal_at, shown_reply, tried_at, tried_in};
 
-use crate::fields::{number_at, object_in};
-use crate::replies::{bad, refused_reply, report_reply};
-use http_front::{AireHeader, WireResponse};
+use crate::fields::{number_at, object_in, short_text_at};
+use crate::replies::{own_numbered, own_refusal, refused_reply, report_reply};
+use http_front::WireResponse;
 use lang_core::{NoMemory, Text};
+use order_texts::program_given;
 use repair_messages::RefusalWord;
-use service_reports::{Service, Unshown, cancellation_shown};
+use serde_json::Value;
+use service_reports::{Service, Trial, Unshown, trial_shown};
 use std::alloc::Global;
-use wire_bytes::console_reply;
-use wire_fields::put_field;
+use wire_fields::{ConsoleRequest, ConsoleWord};
 
-fn previewed_in(alloc: Global, body: &str) -> Result<Option<u64>, NoMemory>
-    ensures { IfOk result (λ id. id ≡ previewed_in body.now) }
+// ---- what is tried
+
+fn cancellation_at(object: &Value) -> Option<Result<Trial, u64>>
+    ensures { result ≡ cancellation_at (view object.now) }
 {
-    match object_in(alloc, body)? {
-        Some(object) => Ok(number_at(&object, "id")),
+    let id = number_at(object, "id")?;
+    Some(Ok(Trial::Cancel(id)))
+}
+
+// The correction of the program of this number, or where the text is no program.
+fn correction_of(alloc: Global, number: u64, text: &Text) -> Result<Result<Trial, u64>, NoMemory>
+    ensures { IfOk result (λ tried. tried ≡ correction_of (number, text.now)) }
+{
+    match program_given(alloc, text)? {
+        Ok(program) => Ok(Ok(Trial::Correct(number, program))),
+        Err(at) => Ok(Err(at)),
+    }
+}
+
+fn rehearsal_at(alloc: Global, object: &Value) -> Result<Option<Result<Trial, u64>>, NoMemory>
+    ensures { IfOk result (λ tried. tried ≡ rehearsal_at (view object.now)) }
+{
+    let Some(number) = number_at(object, "number") else {
+        return Ok(None);
+    };
+    let Some(text) = short_text_at(alloc, object, "program")? else {
+        return Ok(None);
+    };
+    Ok(Some(correction_of(alloc, number, &text)?))
+}
+
+fn tried_at(
+    alloc: Global,
+    word: ConsoleWord,
+    object: &Value,
+) -> Result<Option<Result<Trial, u64>>, NoMemory>
+    ensures { IfOk result (λ tried. tried ≡ tried_at word (view object.now)) }
+{
+    match word {
+        ConsoleWord::Rehearse => rehearsal_at(alloc, object),
+        _ => Ok(cancellation_at(object)),
+    }
+}
+
+/// Which order is to be tried: for `rehearse` the correction of the program of the number `number` by the one that the text
+/// `program` spells, or the byte at which it spells none; for another word the cancellation of the request of the number `id`.
+/// None where the body is no object with these fields.
+pub fn tried_in(
+    alloc: Global,
+    request: &ConsoleRequest,
+) -> Result<Option<Result<Trial, u64>>, NoMemory>
+    ensures { IfOk result (λ tried. tried ≡ tried_in request.now) }
+{
+    match object_in(alloc, request.body.as_str())? {
+        Some(object) => tried_at(alloc, request.word, &object),
         None => Ok(None),
     }
 }
 
-fn refusal_json(alloc: Global, word: &str, number: u64) -> Result<Text, NoMemory>
-    ensures { IfOk result (λ text. text ≡ refusal_json word.now number) }
-{
-    let text = format!(in alloc; "{{\"number\":{number},\"refused\":\"{word}\"}}")?;
-    Text::shared(text)
-}
+// ---- what is replied
 
 // Such a refusal passes, as that of a call in flight does, and has its status.
-fn conflict(alloc: Global, field: &str, word: &str, number: u64) -> Result<WireResponse, NoMemory>
-    ensures { IfOk result (λ response. response ≡ conflict field.now word.now number) }
-{
-    let body = refusal_json(alloc, word, number)?;
-    let mut response = console_reply(alloc, body)?;
-    put_field(
-        alloc,
-        &mut response.head,
-        AireHeader::Refused,
-        field.as_bytes(),
-    )?;
-    response.status = RefusalWord::NotYet.status();
-    Ok(response)
-}
-
-fn untimely(alloc: Global, number: u64) -> Result<WireResponse, NoMemory>
-    ensures { IfOk result (λ response. response ≡ conflict (codes "untimely " ++ decimal number) (codes "untimely") number) }
-{
-    let field = format!(in alloc; "untimely {number}")?;
-    conflict(alloc, field.as_str(), "untimely", number)
-}
-
 fn unshown_reply(alloc: Global, why: Unshown) -> Result<WireResponse, NoMemory>
     ensures { IfOk result (λ response. response ≡ shown_reply (Err why)) }
 {
+    let status = RefusalWord::NotYet.status();
     match why {
-        Unshown::NotIdle => conflict(alloc, "notidle", "notidle", 0),
-        Unshown::Untimely(number) => untimely(alloc, number),
+        Unshown::NotIdle => own_refusal(alloc, status, "notidle", "notidle", 0),
+        Unshown::Untimely(number) => own_numbered(alloc, status, "untimely", number),
         Unshown::Order(refused) => refused_reply(alloc, refused),
     }
 }
@@ -71,26 +96,17 @@ fn shown_reply(alloc: Global, shown: Result<Text, Unshown>) -> Result<WireRespon
     }
 }
 
-fn reply_of(alloc: Global, service: &Service, id: u64, who: &Text) -> Result<WireResponse, NoMemory>
-    ensures { IfOk result (TellsShown id who.now service.now) }
-{
-    let shown = cancellation_shown(alloc, service, id, who)?;
-    shown_reply(alloc, shown)
-}
-
-/// What the cancellation of the request that the body's `id` names would come to, ordered by this user, as it is replied: the
-/// lines of a script's `preview`; or why there is none, `notidle` and `untimely N` with status 409, and the refusal of the order
-/// as that of an order. The service stays.
-pub fn preview_reply(
+/// What this order would come to, given by this user, as it is replied: the lines of a script's `preview`; or why there are
+/// none, `notidle` and `untimely N` with status 409, and the refusal of the order as that of an order. The service stays.
+#[tactic(auto, using(crate::proofs::PreviewLemmas::told_shown))]
+pub fn trial_reply(
     alloc: Global,
     service: &Service,
+    trial: Trial,
     who: &Text,
-    body: &str,
 ) -> Result<WireResponse, NoMemory>
-    ensures { IfOk result (IsPreviewReply body.now who.now service.now) }
+    ensures { IfOk result (TellsShown trial who.now service.now) }
 {
-    match previewed_in(alloc, body)? {
-        Some(id) => reply_of(alloc, service, id, who),
-        None => bad(alloc),
-    }
+    let shown = trial_shown(alloc, service, trial, who)?;
+    shown_reply(alloc, shown)
 }

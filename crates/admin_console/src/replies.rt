@@ -3,19 +3,19 @@ ghost use Rattle.std.specs.Prelude.{◌≡◌, ◌++◌, IfOk, OnOk, Some, strin
 ghost use Rattle.serde_json.specs.Read.{read};
 ghost use Rattle.serde_json.specs.View.{view};
 ghost use Rattle.serde_json.specs.Written.{compact_text};
+ghost use Rattle.wire_bytes.specs.Console.{refusal_json};
 ghost use Rattle.wire_words.specs.Refusals.{order_told};
-ghost use Rattle.admin_console.specs.Replies.{about_text, accepted_json, bad, order_reply, refused_reply, report_object, report_reply};
+ghost use Rattle.admin_console.specs.Replies.{accepted_json, bad, fault_reply, order_reply, own_numbered, own_refusal, refused_reply, report_object, report_reply};
 
-use http_front::WireResponse;
-use journal_rows::About;
+use http_front::{AireHeader, WireResponse};
 use lang_core::{Name, NoMemory, Text};
-use request_names::push_id;
+use order_texts::TextFault;
 use serde_json::{Value, json};
 use service_events::{OrderRefused, Ordered};
-use service_reports::push_post_name;
+use service_reports::push_about;
 use std::alloc::Global;
 use wire_bytes::{console_refusal, console_reply};
-use wire_fields::UnreadWord;
+use wire_fields::{UnreadWord, put_field};
 use wire_words::order_told;
 
 /// The body was ill.
@@ -25,16 +25,60 @@ pub fn bad(alloc: Global) -> Result<WireResponse, NoMemory>
     console_refusal(alloc, UnreadWord::Bad.text(), 0)
 }
 
-// ---- orders
-
-fn push_about(text: &mut String, me: &Name, about: About) -> Result<(), NoMemory>
-    ensures { OnOk result (string_bytes text.new ≡ string_bytes text.old ++ about_text me.now about) }
+fn refusal_json(alloc: Global, word: &str, number: u64) -> Result<Text, NoMemory>
+    ensures { IfOk result (λ text. text ≡ refusal_json word.now number) }
 {
-    match about {
-        About::Request(id) => push_id(text, me, id),
-        About::Post(name) => push_post_name(text, name),
+    let text = format!(in alloc; "{{\"number\":{number},\"refused\":\"{word}\"}}")?;
+    Text::shared(text)
+}
+
+/// A refusal that only an operator is told: with this status, this text beside the JSON, and this word and number in it.
+pub fn own_refusal(
+    alloc: Global,
+    status: u16,
+    field: &str,
+    word: &str,
+    number: u64,
+) -> Result<WireResponse, NoMemory>
+    ensures { IfOk result (λ response. response ≡ own_refusal status field.now word.now number) }
+{
+    let body = refusal_json(alloc, word, number)?;
+    let mut response = console_reply(alloc, body)?;
+    put_field(
+        alloc,
+        &mut response.head,
+        AireHeader::Refused,
+        field.as_bytes(),
+    )?;
+    response.status = status;
+    Ok(response)
+}
+
+/// One whose text is the word and the number.
+pub fn own_numbered(
+    alloc: Global,
+    status: u16,
+    word: &str,
+    number: u64,
+) -> Result<WireResponse, NoMemory>
+    ensures { IfOk result (λ response. response ≡ own_numbered status word.now number) }
+{
+    let field = format!(in alloc; "{word} {number}")?;
+    own_refusal(alloc, status, field.as_str(), word, number)
+}
+
+/// The text of an order is none: `program PLACE` or `rules LINE`, with the status of a body that is ill.
+pub fn fault_reply(alloc: Global, fault: TextFault) -> Result<WireResponse, NoMemory>
+    ensures { IfOk result (λ response. response ≡ fault_reply fault) }
+{
+    let status = UnreadWord::Bad.status();
+    match fault {
+        TextFault::Program(at) => own_numbered(alloc, status, "program", at),
+        TextFault::Rules(line) => own_numbered(alloc, status, "rules", line),
     }
 }
+
+// ---- orders
 
 fn push_accepted(text: &mut String, me: &Name, ordered: Ordered) -> Result<(), NoMemory>
     ensures { OnOk result (string_bytes text.new ≡ string_bytes text.old ++ accepted_json me.now ordered) }

@@ -8,7 +8,7 @@ use crate::replies::report_reply;
 use http_front::WireResponse;
 use lang_core::{NoMemory, Text};
 use repair_messages::Refusal;
-use service_reports::{Service, log_of, notices_of, rows_of};
+use service_reports::{Service, log_of, notices_of, programs_of, rows_of};
 use std::alloc::Global;
 
 fn report_of(
@@ -23,6 +23,7 @@ fn report_of(
         Report::Notices => notices_of(alloc, service, waits),
         Report::Log => log_of(alloc, service),
         Report::Rows => rows_of(alloc, service),
+        Report::Programs => programs_of(alloc, service),
     }
 }
 

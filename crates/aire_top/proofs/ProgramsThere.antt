@@ -3,7 +3,7 @@ use Rattle.std.proofs.Common.{◌≡◌, true, length, is_ok, refl, codes}
 use Rattle.lang_tokens.specs.Lexing.{is_word_part, mark_at, past_gap, quoted, run, string_from, tokens}
 use Rattle.lang_reader.specs.Readers.{path_in, part_in, number_in as number_of, text_in, pair_in, expr_in, expr_at, let_in, get_in, put_in, drop_in, each_in, else_in, if_in, call_in, now_in, random_in, reply_in, stmt_in, stmts_in, block_in, block_at, route_in, route_at, routes_in, program_of}
 use Rattle.handler_lang.specs.Reading.{read_of}
-use Rattle.authorise_rules.specs.Reading.{read_of as rules_of}
+use Rattle.authorise_rules.specs.Given.{given_of as rules_of}
 use Rattle.world_file.specs.Programs.{askbot_text, dpaste_text, oauth_text}
 use Rattle.aire_top.proofs.PlainTexts.{are_plain, is_plain_at, plain, plain_at, plain_read}
 

@@ -3,9 +3,8 @@ use Rattle.std.proofs.Common.{◌≡◌, ℕ, true, false, List, [], ◌∷◌, 
 use Rattle.lang_tree.specs.declared.program.Route.{Route}
 use Rattle.handler_lang.specs.Reading.{read_of}
 use Rattle.handler_lang.specs.declared.refused.ProgramRefused.{ProgramRefused}
-use Rattle.authorise_rules.specs.Reading.{read_of as rules_of}
+use Rattle.authorise_rules.specs.Given.{GivenRules, given_of as rules_of}
 use Rattle.authorise_rules.specs.declared.refused.RulesRefused.{RulesRefused}
-use Rattle.authorise_rules.specs.declared.rule.Rule.{Rule}
 use Rattle.world_file.specs.Fields.{Fields}
 use Rattle.world_file.specs.Programs.{askbot_text, dpaste_text, oauth_text}
 use Rattle.world_file.specs.Standard.{built_in, good, posts, standard, world_of_fields, world_where}
@@ -25,7 +24,7 @@ record IsRead (earlier : List Member) (fields : Fields) : Type 0 where
   read : member_of earlier (Ok fields) ≡ Ok member
   named : member_name member ≡ fields.name
 
-rules_good : (fields : Fields) (routes : List Route) (rules : Result (List Rule) RulesRefused) → is_ok rules ≡ true → (m : Member) × (with_rules fields routes rules ≡ Ok m) × (member_name m ≡ fields.name)
+rules_good : (fields : Fields) (routes : List Route) (rules : Result GivenRules RulesRefused) → is_ok rules ≡ true → (m : Member) × (with_rules fields routes rules ≡ Ok m) × (member_name m ≡ fields.name)
 rules_good fields routes (Ok rules) h = (record { fields = fields; program = routes; rules = rules }, refl, refl)
 rules_good fields routes (Err why) h = cc
 

@@ -18,7 +18,7 @@ pub(crate) fn services_of(alloc: Global, setups: &[Setup]) -> Result<Vec<Service
     let mut services = Vec::new(alloc);
     for setup in setups {
         let (setting, rules) = both(setup.setting.copied(alloc), setup.rules.copied(alloc))?;
-        services.push(Service::new(alloc, setting, rules))?;
+        services.push(Service::new(alloc, setting, rules)?)?;
     }
     Ok(services)
 }

@@ -60,10 +60,13 @@ fn tell<R: Ledger, Q: Ledger, W: Wait, C: Connection, D, G>(
 ) -> Served
     ensures audit { asked.now.word ≡ ConsoleWord.Audit → IsVerdictTold shared.now.here.now (C.Sink.writes conn.old) (C.Sink.writes conn.new) result }
     ensures preview { asked.now.word ≡ ConsoleWord.Preview → IsPreviewSo (at_desk desk.now).me asked.now (C.Sink.writes conn.old) (C.Sink.writes conn.new) result }
+    ensures rehearsal { asked.now.word ≡ ConsoleWord.Rehearse → IsPreviewSo (at_desk desk.now).me asked.now (C.Sink.writes conn.old) (C.Sink.writes conn.new) result }
 {
     match asked.word {
         ConsoleWord::Audit => tell_verdict(rt, alloc, shared, conn),
-        ConsoleWord::Preview => tell_preview(rt, alloc, desk, conn, asked),
+        ConsoleWord::Preview | ConsoleWord::Rehearse => {
+            tell_preview(rt, alloc, desk, conn, asked)
+        }
         _ => Served::NoMemory,
     }
 }

@@ -1,9 +1,8 @@
-// Settings and rules, compared.
+// Services and their setups, compared.
 ghost use Rattle.std.specs.Prelude.{◌≡◌, ◌≤◌, ◌↔◌, IfOk, IsTrue, length, map, take};
 ghost use Rattle.lang_tokens.specs.Lexing.{lex, tokens};
 ghost use Rattle.node_run.specs.SetSo.{AreSetSo, IsShort, set_by, set_of};
 
-use authorise_rules::{Rules, print_rules};
 use lang_core::{NoMemory, Same, Setting, Text};
 use lang_grammar::print_routes;
 use lang_tokens::lex;
@@ -50,25 +49,16 @@ fn same_setting(alloc: Global, left: &Setting, right: &Setting) -> Result<bool, 
     same_program(alloc, &left.program, &right.program)
 }
 
-// Whether rules are equal. A text spells one list of them.
-fn same_rules(alloc: Global, left: &Rules, right: &Rules) -> Result<bool, NoMemory>
-    ensures { IfOk result (λ same. IsTrue same ↔ (left.now ≡ right.now)) }
-{
-    let one = print_rules(alloc, left)?;
-    let other = print_rules(alloc, right)?;
-    Ok(one.is(&other))
-}
-
 fn is_set_so(alloc: Global, service: &Service, setup: &Setup) -> Result<bool, NoMemory>
     ensures { IfOk result (λ same. IsTrue same ↔ ((set_of service.now ≡ set_by setup.now) × IsShort service.now.setting.program)) }
 {
     if !same_setting(alloc, service.setting(), &setup.setting)? {
         return Ok(false);
     }
-    same_rules(alloc, service.rules(), &setup.rules)
+    Ok(service.began().is(&setup.rules))
 }
 
-/// Whether the services are those of the setups, in order: whether each has the setting and the rules of its own. A program
+/// Whether the services are those of the setups, in order: whether each has the setting of its own, and began with the rules of its own. A program
 /// with more than 65,536 tokens, which no text of a program spells, is taken for another.
 #[tactic(auto, using(crate::proofs::SameLemmas::sets_more))]
 pub fn are_set_so(alloc: Global, services: &[Service], setups: &[Setup]) -> Result<bool, NoMemory>

@@ -3,6 +3,7 @@ use Rattle.std.proofs.Common.{◌≡◌, ◌⊎◌, ℕ, List, Option, Some, Non
 use Rattle.lang_base.specs.declared.memory.NoMemory.{NoMemory as LacksMemory}
 use Rattle.lang_core.specs.declared.inputs.Inputs.{Inputs}
 use Rattle.journal_rows.specs.declared.orders.Command.{Command}
+use Rattle.order_texts.specs.declared.refused.TextFault.TheVariants.{Program}
 use Rattle.service_events.specs.State.{Kept, me}
 use Rattle.service_events.specs.declared.answers.Ordered.{Ordered}
 use Rattle.service_events.specs.declared.event.Done.{Done as NodeDone}
@@ -15,10 +16,11 @@ use Rattle.wire_bytes.specs.Console.{console_refusal}
 use Rattle.io_edge.specs.Edge.{Writes}
 use Rattle.admin_console.specs.Answers.{IsDone, IsLeft}
 use Rattle.admin_console.specs.Asking.{asked_in}
-use Rattle.admin_console.specs.Previews.{IsPreviewReply}
-use Rattle.admin_console.specs.Replies.{order_reply}
+use Rattle.admin_console.specs.HandedOn.{Trial}
+use Rattle.admin_console.specs.Previews.{TellsShown, Tried, tried_in}
+use Rattle.admin_console.specs.Replies.{bad, fault_reply, order_reply}
 use Rattle.admin_console.specs.declared.asking.Asked.{Asked}
-use Rattle.admin_console.specs.declared.asking.Asked.TheVariants.{Order, Report}
+use Rattle.admin_console.specs.declared.asking.Asked.TheVariants.{IllText, Order, Report}
 use Rattle.node_core.specs.declared.notes.Notes.{Notes}
 use Rattle.node_core.specs.declared.receipt.Receipt.{Receipt}
 use Rattle.node_exchanges.specs.Endpoints.{Endpoint}
@@ -29,7 +31,7 @@ use Rattle.node_workers.specs.Desks.{IsServiceOf}
 use Rattle.node_workers.specs.Held.{IsUnmade, OrdersThere, service_at, waits_at}
 use Rattle.node_workers.specs.Operators.{TellsReport}
 use Rattle.node_workers.specs.Posting.{Keeps}
-use Rattle.node_workers.specs.Serving.{IsDoneSo, IsOperatorTold, IsPreviewTold, IsWantTold}
+use Rattle.node_workers.specs.Serving.{IsDoneSo, IsOperatorTold, IsPreviewTold, IsTriedTold, IsWantTold, ShowsTrial}
 use Rattle.node_workers.specs.Asking.{MakesAsked}
 use Rattle.node_workers.specs.Turns.{IsUntouched, Made, MakesOnce}
 use Rattle.node_workers.specs.Written.{IsPreviewSo}
@@ -50,6 +52,7 @@ pub asks_nothing : (name : List ℕ) (i : Inputs) (who : List ℕ) (asked : Opti
 asks_nothing name i who None notes receipts = (refl, refl)
 asks_nothing name i who (Some (Order token command)) notes receipts = inl (refl, refl)
 asks_nothing name i who (Some (Report report)) notes receipts = (refl, refl)
+asks_nothing name i who (Some (IllText fault)) notes receipts = (refl, refl)
 
 -- ---- at the service behind the lock
 
@@ -82,6 +85,7 @@ asked_keeps name i who None before now had have makes = untouched_keeps before n
 asked_keeps name i who (Some (Order token command)) before now had have (inl none) = untouched_keeps before now had have none
 asked_keeps name i who (Some (Order token command)) before now had have (inr made) = event_keeps name before now had have command token who i made.0 made.1
 asked_keeps name i who (Some (Report report)) before now had have makes = untouched_keeps before now had have makes
+asked_keeps name i who (Some (IllText fault)) before now had have makes = untouched_keeps before now had have makes
 
 module _ {R Q W : Type 0} (before now : HeldNode R Q W) (i : Inputs) where
   -- what is lent to it
@@ -99,12 +103,14 @@ module _ {R Q W : Type 0} (before now : HeldNode R Q W) (i : Inputs) where
   done_lent None who response is = same_lent is.0
   done_lent (Some (Order token command)) who response is = order_lent command token who is.answer is.made
   done_lent (Some (Report report)) who response is = same_lent is.0
+  done_lent (Some (IllText fault)) who response is = same_lent is.0
 
   left_lent : (asked : Option Asked) (who : List ℕ) → IsLeft OrdersThere before asked who i now → IsLent
   left_lent None who is = same_lent is
   left_lent (Some (Order token command)) who (inl same) = same_lent same
   left_lent (Some (Order token command)) who (inr is) = order_lent command token who is.0 is.1
   left_lent (Some (Report report)) who is = same_lent is
+  left_lent (Some (IllText fault)) who is = same_lent is
 
   lent : (asked : Option Asked) (who : List ℕ) (reply : Reply) → IfOk reply (λ (response : WireResponse). IsDone service_at waits_at OrdersThere before asked who i response now)
       → OnErr reply (IsLeft OrdersThere before asked who i now) → IsLent
@@ -130,12 +136,14 @@ module _ {R Q W : Type 0} (before now : HeldNode R Q W) (i : Inputs) where
   done_makes None who response is = same_makes (me (service_at before)) None who is.0
   done_makes (Some (Order token command)) who response is = order_makes command token who is.answer is.made
   done_makes (Some (Report report)) who response is = same_makes (me (service_at before)) (Some (Report report)) who is.0
+  done_makes (Some (IllText fault)) who response is = same_makes (me (service_at before)) (Some (IllText fault)) who is.0
 
   left_makes : (asked : Option Asked) (who : List ℕ) → IsLeft OrdersThere before asked who i now → Makes (me (service_at before)) asked who
   left_makes None who is = same_makes (me (service_at before)) None who is
   left_makes (Some (Order token command)) who (inl same) = same_makes (me (service_at before)) (Some (Order token command)) who same
   left_makes (Some (Order token command)) who (inr is) = order_makes command token who is.0 is.1
   left_makes (Some (Report report)) who is = same_makes (me (service_at before)) (Some (Report report)) who is
+  left_makes (Some (IllText fault)) who is = same_makes (me (service_at before)) (Some (IllText fault)) who is
 
   makes_by : (asked : Option Asked) (who : List ℕ) (reply : Reply)
       → IfOk reply (λ (response : WireResponse). IsDone service_at waits_at OrdersThere before asked who i response now)
@@ -160,6 +168,7 @@ module _ {R Q W : Type 0} (before now : HeldNode R Q W) (i : Inputs) where
   report_told None who (Ok response) is = tt
   report_told (Some (Order token command)) who (Ok response) is = tt
   report_told (Some (Report report)) who (Ok response) is = is.1
+  report_told (Some (IllText fault)) who (Ok response) is = tt
   report_told asked who (Err lacks) is = tt
 
   module _ (e : Endpoint) (of : IsServiceOf e.me (service_at before)) (fresh : before.pass.now.notes.gave ≡ None) where
@@ -181,6 +190,7 @@ module _ {R Q W : Type 0} (before now : HeldNode R Q W) (i : Inputs) where
     done_told None who response is = inl is.1
     done_told (Some (Order token command)) who response is = order_told command token who response is.answer is.made.named is.told is.made.made
     done_told (Some (Report report)) who response is = inl (record { service = service_at before; of = of; waits = waits_at before; told = is.1 })
+    done_told (Some (IllText fault)) who response is = inl is.1
 
     pub reply_told : (asked : Option Asked) (who : List ℕ) (reply : Reply) (notes : Notes)
         → IfOk reply (λ (response : WireResponse). IsDone service_at waits_at OrdersThere before asked who i response now) → (IsLent → notes ≡ now.pass.now.notes)
@@ -234,11 +244,24 @@ pub copy_so : (name : List ℕ) (s : Kept) (copied : Result Kept LacksMemory) �
 copy_so name s (Ok copy) same of = subst (IsServiceOf name) (sym same) of
 copy_so name s (Err lacks) same of = tt
 
-pub preview_so : (name : List ℕ) (request : ConsoleRequest) (body : List ℕ) (s : Kept) (reply : Reply) → IsServiceOf name s → body ≡ request.body
-    → IfOk reply (λ (response : WireResponse). IsPreviewReply body request.who s response) → IfOk reply (λ (response : WireResponse). IsPreviewTold name request response)
-preview_so name request body s (Ok response) of read told =
-    record { service = s; of = of; told = subst (λ (b : List ℕ). IsPreviewReply b request.who s response) read told }
-preview_so name request body s (Err lacks) of read told = tt
+pub shows_trial : (name : List ℕ) (trial : Trial) (who : List ℕ) (s : Kept) (reply : Reply) → IsServiceOf name s → IfOk reply (TellsShown trial who s)
+    → IfOk reply (ShowsTrial name trial who)
+shows_trial name trial who s (Ok response) of told = record { service = s; of = of; told = told }
+shows_trial name trial who s (Err lacks) of told = tt
+
+module _ (name : List ℕ) (request : ConsoleRequest) (reply : Reply) where
+  by_read : (tried : Option Tried) → tried ≡ tried_in request → IfOk reply (IsTriedTold name request.who tried) → IfOk reply (IsPreviewTold name request)
+  by_read tried read told = subst (λ (o : Option Tried). IfOk reply (IsTriedTold name request.who o)) read told
+
+  -- by what was read of the request
+  pub trial_so : (trial : Trial) → Some (Ok trial) ≡ tried_in request → IfOk reply (ShowsTrial name trial request.who) → IfOk reply (IsPreviewTold name request)
+  trial_so trial read told = by_read (Some (Ok trial)) read told
+
+  pub ill_text_so : (at : ℕ) → Some (Err at) ≡ tried_in request → IfOk reply (λ (response : WireResponse). response ≡ fault_reply (Program at)) → IfOk reply (IsPreviewTold name request)
+  ill_text_so at read told = by_read (Some (Err at)) read told
+
+  pub ill_body_so : None ≡ tried_in request → IfOk reply (λ (response : WireResponse). response ≡ bad) → IfOk reply (IsPreviewTold name request)
+  ill_body_so read told = by_read None read told
 
 -- what is told is written, or its write fails, or memory is wanting for that
 pub preview_said : (name : List ℕ) (request : ConsoleRequest) (before now : Writes) (response : WireResponse) (answer : Served) → IsPreviewTold name request response

@@ -37,9 +37,11 @@ use Rattle.aire_wire.specs.declared.incoming.Incoming.TheVariants as said
 use Rattle.wire_bytes.specs.Console.{console_refusal}
 use Rattle.wire_bytes.specs.Hearing.{IsHeardFrom, TakenSays}
 use Rattle.wire_bytes.specs.declared.hearing.Unheard.TheVariants as unheard
+use Rattle.order_texts.specs.declared.refused.TextFault.TheVariants.{Program}
 use Rattle.admin_console.specs.Asking.{asked_in, is_of_the_run}
-use Rattle.admin_console.specs.Previews.{IsPreviewReply}
-use Rattle.admin_console.specs.Replies.{bad, order_reply, report_reply}
+use Rattle.admin_console.specs.HandedOn.{Trial}
+use Rattle.admin_console.specs.Previews.{TellsShown, Tried, tried_in}
+use Rattle.admin_console.specs.Replies.{bad, fault_reply, order_reply, report_reply}
 use Rattle.admin_console.specs.Reports.{report_of}
 use Rattle.admin_console.specs.declared.asking.Asked.{Asked}
 use Rattle.admin_console.specs.declared.asking.Asked.TheVariants as asks
@@ -205,11 +207,12 @@ pub record IsReportOf (name : List ℕ) (report : Report) (response : WireRespon
   pub waits : Option Refusal
   pub told : response ≡ report_reply (report_of report waits service)
 
--- what was asked is done and told; of a body that was ill it is told that it was
+-- what was asked is done and told; of a body that was ill it is told that it was, and of a text that is none, where
 abbrev pub IsDoneSo : Endpoint → Inputs → Notes → List ℕ → Option Asked → WireResponse → Type 0
 IsDoneSo e i notes who None response = response ≡ bad
 IsDoneSo e i notes who (Some (asks.Order token command)) response = IsOrderTold e.me command token who i notes response
 IsDoneSo e i notes who (Some (asks.Report report)) response = IsReportOf e.me report response
+IsDoneSo e i notes who (Some (asks.IllText fault)) response = response ≡ fault_reply fault
 
 -- memory was wanting, and the notes have no order: none was made
 abbrev pub IsWantTold : Notes → WireResponse → Type 0
@@ -218,11 +221,21 @@ IsWantTold notes response = (notes.gave ≡ None) × (response ≡ console_refus
 abbrev pub IsOperatorTold : Endpoint → Inputs → ConsoleRequest → Notes → WireResponse → Type 0
 IsOperatorTold e i asked notes response = IsDoneSo e i notes asked.who (asked_in asked) response ⊎ IsWantTold notes response
 
--- what is shown of the cancellation that is asked for, of a service of this name; that it is the one that the lock lends is said where the lock is held
-pub record IsPreviewTold (name : List ℕ) (request : ConsoleRequest) (response : WireResponse) : Type 0 where
+-- what is shown of this order of this user, of a service of this name; that it is the one that the lock lends is said where the lock is held
+pub record ShowsTrial (name : List ℕ) (trial : Trial) (who : List ℕ) (response : WireResponse) : Type 0 where
   pub service : Kept
   pub of : IsServiceOf name service
-  pub told : IsPreviewReply request.body request.who service response
+  pub told : TellsShown trial who service response
+
+-- by what was read of a request: of a body that was ill it is told that it was, and of a text that is no program, where
+abbrev pub IsTriedTold : List ℕ → List ℕ → Option Tried → WireResponse → Type 0
+IsTriedTold name who None response = response ≡ bad
+IsTriedTold name who (Some (Err at)) response = response ≡ fault_reply (Program at)
+IsTriedTold name who (Some (Ok trial)) response = ShowsTrial name trial who response
+
+-- what an operator is told who asks for a preview or a rehearsal
+abbrev pub IsPreviewTold : List ℕ → ConsoleRequest → WireResponse → Type 0
+IsPreviewTold name request response = IsTriedTold name request.who (tried_in request) response
 
 -- the response to an operator's request read, whose word isn't one that workers answer
 pub record TellsOperator (e : Endpoint) (i : Inputs) (before now : Reads) (notes : Notes) (response : WireResponse) : Type 0 where

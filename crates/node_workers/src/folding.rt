@@ -9,11 +9,12 @@ ghost use Rattle.node_workers.specs.Folding.{can_go, fold_token, front_of, is_an
 use crate::desk::Desk;
 use crate::turns::ask_under_lock;
 use admin_console::Service;
+use authorise_rules::{Asked, Decision, decide};
 use call_registers::{Register, Registers, is_done_with};
 use journal_rows::{Command, Rows};
 use lang_core::{Copied, Inputs, NoMemory, Text};
 use node_core::{NodeDone, NodeEvent, NodeState, OwnFolds, Pass};
-use repair_messages::{Refusal, RefusalWord};
+use repair_messages::{Kind, Refusal, RefusalWord};
 use request_log::{Entry, KeptEntry};
 use service_events::{OrderRefused, Ordered};
 use std::alloc::Global;
@@ -132,10 +133,30 @@ fn due_of(service: &Service, entries: &[KeptEntry], keep: usize, part: usize) ->
     FoldDue::UpTo(id_at(entries, front.saturating_sub(1)))
 }
 
-// Whether an order to fold would be refused again: rules stay, and a journal gets no lighter.
-fn stays_refused(waits: Option<Refusal>) -> bool {
+// Whether the rules, as they are now, deny by the rule of this number that the service folds by itself.
+fn is_denied_by(service: &Service, number: u64) -> bool {
+    let asked = Asked {
+        kind: Kind::Fold,
+        from: None,
+        who: service.setting().me.text(),
+        original: None,
+        old_path: None,
+        new_path: None,
+    };
+    match decide(service.rules().rules(), &asked) {
+        Decision::Allow(_) => false,
+        Decision::Deny(rule) => rule as u64 == number,
+    }
+}
+
+// Whether an order to fold would be refused again: by the same rule, or since a journal gets no lighter.
+fn stays_refused(service: &Service, waits: Option<Refusal>) -> bool {
     match waits {
-        Some(why) => matches!(why.word, RefusalWord::Denied | RefusalWord::Full),
+        Some(why) => match why.word {
+            RefusalWord::Denied => is_denied_by(service, why.number),
+            RefusalWord::Full => true,
+            _ => false,
+        },
         None => false,
     }
 }
@@ -157,7 +178,7 @@ pub fn fold_due<R: Ledger>(kept: &NodeState<R>, keep: Option<u64>) -> FoldDue {
     if (entries.len() as u64) < keep.saturating_add(part) {
         return FoldDue::Nothing;
     }
-    if stays_refused(kept.folds().waits) {
+    if stays_refused(kept.service(), kept.folds().waits) {
         return FoldDue::Refused;
     }
     due_of(kept.service(), entries, keep as usize, part as usize)
@@ -208,7 +229,7 @@ fn note_answer<R: Ledger>(
         Err(why) => (number.saturating_sub(1), Some(why.refusal())),
     };
     kept.note_folds(OwnFolds { used, waits });
-    if waits.is_none() || stays_refused(waits) {
+    if waits.is_none() || stays_refused(kept.service(), waits) {
         RepairTurn::Rests
     } else {
         RepairTurn::Again

@@ -5,17 +5,21 @@ ghost use Rattle.node_workers.specs.Asking.{MakesAsked};
 ghost use Rattle.node_workers.specs.Desks.{at_desk, IsServiceOf};
 ghost use Rattle.node_workers.specs.Operators.{TellsReport};
 ghost use Rattle.node_workers.specs.Posting.{Keeps};
-ghost use Rattle.node_workers.specs.Serving.{IsDoneSo, IsForWorkers, IsOperatorTold, IsPreviewTold, IsWantTold};
+ghost use Rattle.node_workers.specs.Serving.{IsDoneSo, IsForWorkers, IsOperatorTold, IsPreviewTold, IsWantTold, ShowsTrial};
 ghost use Rattle.node_workers.specs.Written.{IsConsoleSo, IsPreviewSo, IsTextSo};
 
 use crate::desk::{Desk, is_service_of};
 use crate::held::HeldNode;
-use admin_console::{Asked, Service, asked_in, carry_out, preview_reply, report_reply};
+use admin_console::{
+    Asked, Service, Trial, asked_in, bad, carry_out, fault_reply, report_reply, trial_reply,
+    tried_in,
+};
 use http_front::WireResponse;
 use io_edge::Connection;
 use lang_core::{Copied, Inputs, NoMemory, Text};
 use node_core::{NodeState, Pass};
 use node_exchanges::{Served, write};
+use order_texts::TextFault;
 use repair_messages::RefusalWord;
 use std::alloc::Global;
 use std::sync::Wait;
@@ -72,7 +76,7 @@ fn reply_at_node<R: Ledger, Q: Ledger, W: Wait>(
     reply_under_lock(rt, alloc, desk, &mut *state, pass, asked, who, inputs)
 }
 
-// The body is read before the lock is taken.
+// The body is read before the lock is taken, and so is a text that comes with an order.
 fn reply<R: Ledger, Q: Ledger, W: Wait>(
     rt: &W,
     alloc: Global,
@@ -183,6 +187,22 @@ fn service_now<R: Ledger, Q: Ledger, W: Wait>(
     copy_under_lock(alloc, desk, state.service())
 }
 
+#[tactic(auto, using(crate::proofs::OperatorLemmas::shows_trial))]
+fn show_trial<R: Ledger, Q: Ledger, W: Wait>(
+    rt: &W,
+    alloc: Global,
+    desk: &Desk<R, Q>,
+    trial: Trial,
+    who: &Text,
+) -> Result<WireResponse, NoMemory>
+    ensures { IfOk result (ShowsTrial (at_desk desk.now).me trial who.now) }
+{
+    let service = service_now(rt, alloc, desk)?;
+    trial_reply(alloc, &service, trial, who)
+}
+
+// The body is read before the lock is taken, and so is its text.
+#[tactic(auto, using(crate::proofs::OperatorLemmas::trial_so, crate::proofs::OperatorLemmas::ill_text_so, crate::proofs::OperatorLemmas::ill_body_so))]
 fn preview_of<R: Ledger, Q: Ledger, W: Wait>(
     rt: &W,
     alloc: Global,
@@ -191,12 +211,15 @@ fn preview_of<R: Ledger, Q: Ledger, W: Wait>(
 ) -> Result<WireResponse, NoMemory>
     ensures { IfOk result (IsPreviewTold (at_desk desk.now).me request.now) }
 {
-    let service = service_now(rt, alloc, desk)?;
-    preview_reply(alloc, &service, &request.who, request.body.as_str())
+    match tried_in(alloc, request)? {
+        Some(Ok(trial)) => show_trial(rt, alloc, desk, trial, &request.who),
+        Some(Err(at)) => fault_reply(alloc, TextFault::Program(at)),
+        None => bad(alloc),
+    }
 }
 
-/// Tells an operator who asks for a preview what the cancellation would come to, or why that isn't shown. It is tried on a copy,
-/// without the lock. Where there is no memory nothing is written.
+/// Tells an operator who asks for a preview, or for a rehearsal, what the order would come to, or why that isn't shown. It is tried
+/// on a copy, without the lock. Where there is no memory nothing is written.
 pub fn tell_preview<R: Ledger, Q: Ledger, W: Wait, C: Connection>(
     rt: &W,
     alloc: Global,

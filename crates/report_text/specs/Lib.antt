@@ -1,3 +1,4 @@
 pub mod Escapes
 pub mod Notices
 pub mod Reports
+pub mod Abouts

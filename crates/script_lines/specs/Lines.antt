@@ -16,8 +16,10 @@ use Rattle.journal_rows.specs.declared.orders.Command.{Command}
 use Rattle.journal_rows.specs.declared.orders.Command.TheVariants.{Cancel, Restore, Replace, Create, Retry, Fold}
 use Rattle.report_text.specs.Escapes.{unescaped}
 use Rattle.world_events.specs.declared.event.Event.TheVariants as event
+use Rattle.order_texts.specs.declared.text_order.TextOrder.{TextOrder}
+use Rattle.order_texts.specs.declared.text_order.TextOrder.TheVariants.{Correct, Deploy, Rules}
 use Rattle.script_lines.specs.declared.line.Line.{Line}
-use Rattle.script_lines.specs.declared.line.Line.TheVariants.{Blank, Event, Ask, Settle, Rows, Log, Notices, Preview, Dump, Audit}
+use Rattle.script_lines.specs.declared.line.Line.TheVariants.{Blank, Event, Given, Ask, Settle, Rows, Log, Notices, Preview, Programs, Rehearse, Dump, Audit}
 use Rattle.script_lines.specs.declared.line.LineFault.{LineFault}
 use Rattle.script_lines.specs.declared.line.LineFault.TheVariants.{Text, Word, Shape}
 
@@ -140,6 +142,37 @@ unfoldable pub retry_at : Option (List ℕ) → Option Line
 retry_at rest = with_part (order_parts rest) (λ o. with_word o.3 (λ name rest. at_end rest
     (with_part (post_name name) (λ post. order_with o.0 (Retry post) o.1 o.2))))
 
+-- an order that comes with a text, whose service, token and user are each there
+abbrev pub given_of : Option (List ℕ) → TextOrder → Option (List ℕ) → Option (List ℕ) → List ℕ → Option Line
+given_of service order token who text =
+    with_part service (λ service. with_part token (λ token. with_part who (λ who. Some (Given service order token who text))))
+
+-- one whose service is a name, and whose token and user may be such
+abbrev pub given_with : List ℕ → TextOrder → List ℕ → List ℕ → List ℕ → Option Line
+given_with service order token who text = given_of (name_part service) order (who_part token) (who_part who) text
+
+-- `S TOKEN WHO TEXT`
+unfoldable pub given_at : TextOrder → Option (List ℕ) → Option Line
+given_at order rest = with_part (order_parts rest) (λ o. with_part (body_of (rest_or_empty o.3)) (λ text.
+    given_with o.0 order o.1 o.2 text))
+
+-- `S K TOKEN WHO TEXT`
+unfoldable pub correct_at : Option (List ℕ) → Option Line
+correct_at rest = with_word rest (λ service rest. with_part (order_parts rest) (λ o. with_part (number_of o.0) (λ number.
+    with_part (body_of (rest_or_empty o.3)) (λ text. given_with service (Correct number) o.1 o.2 text))))
+
+-- a rehearsal whose service and user are both there
+abbrev pub rehearsal_of : Option (List ℕ) → ℕ → Option (List ℕ) → List ℕ → Option Line
+rehearsal_of service number who text = with_part service (λ service. with_part who (λ who. Some (Rehearse service number who text)))
+
+abbrev pub rehearsal_with : List ℕ → ℕ → List ℕ → List ℕ → Option Line
+rehearsal_with service number who text = rehearsal_of (name_part service) number (who_part who) text
+
+-- `S K WHO TEXT`, whose first three words are cut as those of an order
+unfoldable pub rehearse_at : Option (List ℕ) → Option Line
+rehearse_at rest = with_part (order_parts rest) (λ o. with_part (number_of o.1) (λ number.
+    with_part (body_of (rest_or_empty o.3)) (λ text. rehearsal_with o.0 number o.2 text)))
+
 -- `S` alone
 unfoldable pub service_at : (List ℕ → Line) → Option (List ℕ) → Option Line
 service_at line rest = with_word rest (λ service rest. at_end rest (where_good (is_name service) (Some (line service))))
@@ -217,16 +250,21 @@ words_at word rest =
     else (if same_text word (codes "create") then shaped (create_at rest)
     else (if same_text word (codes "retry") then shaped (retry_at rest)
     else (if same_text word (codes "fold") then shaped (entry_order_at Fold rest)
+    else (if same_text word (codes "deploy") then shaped (given_at Deploy rest)
+    else (if same_text word (codes "correct") then shaped (correct_at rest)
+    else (if same_text word (codes "rules") then shaped (given_at Rules rest)
     else (if same_text word (codes "clock") then shaped (clock_at rest)
     else (if same_text word (codes "seed") then shaped (seed_at rest)
     else (if same_text word (codes "settle") then shaped (settle_at rest)
     else (if same_text word (codes "rows") then shaped (service_at Rows rest)
     else (if same_text word (codes "log") then shaped (service_at Log rest)
     else (if same_text word (codes "notices") then shaped (service_at Notices rest)
+    else (if same_text word (codes "programs") then shaped (service_at Programs rest)
     else (if same_text word (codes "preview") then shaped (preview_at rest)
+    else (if same_text word (codes "rehearse") then shaped (rehearse_at rest)
     else (if same_text word (codes "dump") then shaped (at_end rest (Some Dump))
     else (if same_text word (codes "audit") then shaped (at_end rest (Some Audit))
-    else Err Word)))))))))))))))))))))
+    else Err Word))))))))))))))))))))))))))
 
 -- an empty line or a comment
 abbrev pub is_passed_over : List ℕ → Bool

@@ -6,6 +6,7 @@ mod line;
 mod orders;
 mod parts;
 mod read;
+mod texts;
 
 pub use line::{Line, LineFault};
 pub use read::read_line;

@@ -3,6 +3,7 @@ ghost use Rattle.script_lines.specs.Faults.{fault_number};
 ghost use Rattle.std.specs.Prelude.{◌≡◌};
 
 use lang_core::{Name, Request, Text};
+use order_texts::TextOrder;
 use world_events::Event;
 
 /// Why a line is refused, or the whole script. Tests of a line come in this order.
@@ -51,18 +52,52 @@ pub enum Line {
     /// `replace S/N TOKEN WHO METHOD PATH BODY`, `create S TOKEN WHO BEFORE AFTER WHO2 METHOD PATH BODY` or
     /// `retry S TOKEN WHO NAME`.
     Event(Event),
+    /// An order of the user WHO that comes with a text, which isn't read yet: `deploy S TOKEN WHO TEXT`,
+    /// `correct S K TOKEN WHO TEXT` or `rules S TOKEN WHO TEXT`.
+    Given {
+        service: Name,
+        order: TextOrder,
+        token: Text,
+        who: Text,
+        text: Text,
+    },
     /// `ask S WHO METHOD PATH BODY`: a request from outside arrives, and its calls are delivered until it is committed.
-    Ask { service: Name, request: Request },
+    Ask {
+        service: Name,
+        request: Request,
+    },
     /// `settle N`: at most so many rounds of repair at all services, from 1 to 1,000.
     Settle(u64),
     /// `rows S`: the rows.
-    Rows { service: Name },
+    Rows {
+        service: Name,
+    },
     /// `log S`: the log.
-    Log { service: Name },
+    Log {
+        service: Name,
+    },
     /// `notices S`: the posts that are held.
-    Notices { service: Name },
+    Notices {
+        service: Name,
+    },
     /// `preview S/N WHO`: what would come of cancelling the request and stepping until idle, with nothing done.
-    Preview { service: Name, id: u64, who: Text },
+    Preview {
+        service: Name,
+        id: u64,
+        who: Text,
+    },
+    /// `programs S`: the programs that entries and flights have, the newest, and the rules.
+    Programs {
+        service: Name,
+    },
+    /// `rehearse S K WHO TEXT`: what would come of correcting the program of this number by the one that the text spells, which isn't
+    /// read yet, and stepping until idle, with nothing done.
+    Rehearse {
+        service: Name,
+        number: u64,
+        who: Text,
+        text: Text,
+    },
     /// `dump`: all services, written down.
     Dump,
     /// `audit`: the verdict over all services.

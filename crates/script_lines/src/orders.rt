@@ -13,9 +13,9 @@ use request_names::{cut_word, name_part, who_part};
 use std::alloc::Global;
 use world_events::Event;
 
-// What an order is about, its token and its user, and what stands behind.
+/// What an order is about, its token and its user, and what stands behind.
 #[tactic(auto, unfolding(crate::specs::Lines::order_parts))]
-fn cut_order(rest: Option<&str>) -> Option<(&str, &str, &str, Option<&str>)>
+pub fn cut_order(rest: Option<&str>) -> Option<(&str, &str, &str, Option<&str>)>
     ensures { option_map (λ o. (o.0.now, o.1.now, o.2.now, option_map (λ x. x.now) o.3)) result
         ≡ order_parts (option_map (λ x. x.now) rest.entry) }
 {
@@ -58,8 +58,8 @@ fn order_of(
     }
 }
 
-// A service, a token and a user, each if the word may be one.
-fn names_of(
+/// A service, a token and a user, each if the word may be one.
+pub fn names_of(
     alloc: Global,
     service: &str,
     token: &str,

@@ -8,8 +8,10 @@ use crate::asking::{read_ask, read_begin};
 use crate::line::{Line, LineFault};
 use crate::orders::{read_cancel, read_create, read_fold, read_replace, read_restore, read_retry};
 use crate::parts::{flight_part, numbered_part, packet_part};
+use crate::texts::{read_correct, read_given, read_rehearse};
 use lang_base::both;
 use lang_core::{LAST_MOMENT, Name, NoMemory, Text};
+use order_texts::TextOrder;
 use request_names::{cut_word, name_part, read_number, who_part};
 use std::alloc::Global;
 use world_events::Event;
@@ -67,6 +69,15 @@ fn read_notices(alloc: Global, rest: Option<&str>) -> Result<Option<Line>, NoMem
         return Ok(None);
     };
     Ok(Some(Line::Notices { service }))
+}
+
+fn read_programs(alloc: Global, rest: Option<&str>) -> Result<Option<Line>, NoMemory>
+    ensures { IfOk result (λ r. r ≡ service_at Line.Programs (option_map (λ x. x.now) rest.entry)) }
+{
+    let Some(service) = read_service(alloc, rest)? else {
+        return Ok(None);
+    };
+    Ok(Some(Line::Programs { service }))
 }
 
 // The line of a word that stands alone.
@@ -246,13 +257,18 @@ fn read_words(
         "create" => Ok(shaped(read_create(alloc, rest)?)),
         "retry" => Ok(shaped(read_retry(alloc, rest)?)),
         "fold" => Ok(shaped(read_fold(alloc, rest)?)),
+        "deploy" => Ok(shaped(read_given(alloc, TextOrder::Deploy, rest)?)),
+        "correct" => Ok(shaped(read_correct(alloc, rest)?)),
+        "rules" => Ok(shaped(read_given(alloc, TextOrder::Rules, rest)?)),
         "clock" => Ok(shaped(read_clock(rest))),
         "seed" => Ok(shaped(read_seed(rest))),
         "settle" => Ok(shaped(read_settle(rest))),
         "rows" => Ok(shaped(read_rows(alloc, rest)?)),
         "log" => Ok(shaped(read_log(alloc, rest)?)),
         "notices" => Ok(shaped(read_notices(alloc, rest)?)),
+        "programs" => Ok(shaped(read_programs(alloc, rest)?)),
         "preview" => Ok(shaped(read_preview(alloc, rest)?)),
+        "rehearse" => Ok(shaped(read_rehearse(alloc, rest)?)),
         "dump" => Ok(shaped(alone(rest, Line::Dump))),
         "audit" => Ok(shaped(alone(rest, Line::Audit))),
         _ => Ok(Err(LineFault::Word)),

@@ -7,4 +7,5 @@ pub mod SettlingLaws
 pub mod Standing
 pub mod DumpLemmas
 mod PreviewLemmas
+mod GivenLemmas
 pub mod HandedOn

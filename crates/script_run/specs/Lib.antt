@@ -4,6 +4,8 @@ pub mod Counting
 pub mod Printing
 pub mod Plays
 pub mod Settling
+pub mod Reporting
+pub mod Giving
 pub mod Previewing
 pub mod Stops
 pub mod Deliveries

@@ -3,6 +3,9 @@ use Rattle.std.specs.Prelude.{ℕ, ◌≡◌, ◌+◌, Bool, true, false, List, 
 use Rattle.std.specs.List.{slice_split}
 use Rattle.report_text.specs.Reports.{verdict_text}
 use Rattle.service_events.specs.State.{Kept, me}
+use Rattle.order_texts.specs.Texts.{command_given, program_given}
+use Rattle.service_reports.specs.HandedOn.{Cancel}
+use Rattle.service_reports.specs.Programs.{programs_of_service}
 use Rattle.service_reports.specs.Reports.{log_of_service, notices_of_service, rows_of_service}
 use Rattle.world_agreement.specs.Partners.{service_of}
 use Rattle.world_events.specs.Events.{after_events}
@@ -14,12 +17,14 @@ use Rattle.world_settle.specs.Doing.{AreOfSettling}
 use Rattle.script_lines.specs.Faults.{fault_number}
 use Rattle.script_lines.specs.Lines.{Read, line_at}
 use Rattle.script_lines.specs.declared.line.Line.{Line}
-use Rattle.script_lines.specs.declared.line.Line.TheVariants.{Blank, Event as One, Ask, Settle, Rows, Log, Notices, Preview, Dump, Audit}
-use Rattle.script_lines.specs.declared.line.LineFault.TheVariants.{Service, TooLong}
+use Rattle.script_lines.specs.declared.line.Line.TheVariants.{Blank, Event as One, Given, Ask, Settle, Rows, Log, Notices, Preview, Programs, Rehearse, Dump, Audit}
+use Rattle.script_lines.specs.declared.line.LineFault.TheVariants.{TooLong}
 use Rattle.script_run.specs.Audits.{verdict}
 use Rattle.script_run.specs.Counting.{nothing_said, printed, said_then}
 use Rattle.dump_lines.specs.Dumps.{dump_text}
-use Rattle.script_run.specs.Previewing.{SaysPreview}
+use Rattle.script_run.specs.Giving.{given_events, given_said}
+use Rattle.script_run.specs.Previewing.{PrintsPreview, PrintsRehearsal, SaysShown}
+use Rattle.script_run.specs.Reporting.{report_of}
 use Rattle.script_run.specs.Settling.{SaysSettled}
 use Rattle.script_run.specs.Told.{LineAnswer, events_said}
 use Rattle.script_run.specs.declared.counts.Said.{Said}
@@ -30,21 +35,19 @@ use Rattle.script_run.specs.declared.counts.Said.{Said}
 abbrev pub AreEventsOf : World → Line → List Event → Type 0
 AreEventsOf w Blank events = events ≡ []
 AreEventsOf w (One e) events = events ≡ e ∷ []
+AreEventsOf w (Given service order token who text) events = events ≡ given_events service token who (command_given order text)
 AreEventsOf w (Ask service request) events = IsAsking w service request events
 AreEventsOf w (Settle n) events = AreOfSettling n w events
 AreEventsOf w (Rows service) events = events ≡ []
 AreEventsOf w (Log service) events = events ≡ []
 AreEventsOf w (Notices service) events = events ≡ []
 AreEventsOf w (Preview service id who) events = events ≡ []
+AreEventsOf w (Programs service) events = events ≡ []
+AreEventsOf w (Rehearse service number who text) events = events ≡ []
 AreEventsOf w Dump events = events ≡ []
 AreEventsOf w Audit events = events ≡ []
 
 -- ---- what a line says
-
--- what a report says of a service, if it is there
-abbrev pub report_of : (Kept → List ℕ) → Option Kept → LineAnswer
-report_of report None = Err Service
-report_of report (Some s) = Ok (printed (report s))
 
 -- the verdict over all services
 abbrev pub audit_text : List Kept → List ℕ
@@ -56,7 +59,11 @@ Says w (Settle n) events said = SaysSettled n w events said
 Says w (Rows service) events said = said ≡ report_of rows_of_service (service_of service w.services)
 Says w (Log service) events said = said ≡ report_of log_of_service (service_of service w.services)
 Says w (Notices service) events said = said ≡ report_of (notices_of_service None) (service_of service w.services)
-Says w (Preview service id who) events said = SaysPreview id who (service_of service w.services) said
+Says w (Given service order token who text) events said = said ≡ given_said w service (command_given order text) events
+Says w (Preview service id who) events said = SaysShown (PrintsPreview (Cancel id) who) (service_of service w.services) said
+Says w (Programs service) events said = said ≡ report_of programs_of_service (service_of service w.services)
+Says w (Rehearse service number who text) events said =
+    SaysShown (PrintsRehearsal number who (program_given text)) (service_of service w.services) said
 Says w Dump events said = said ≡ Ok (printed (dump_text w.services))
 Says w Audit events said = said ≡ Ok (printed (audit_text w.services))
 Says w other events said = said ≡ events_said w events
@@ -154,6 +161,7 @@ AreEventsIn w (line ∷ lines) events = AreEventsFor w (line_at line) events
 -- a line of live requests alone, or a report: no step, no order, no post, no settling. What can't be read does nothing
 abbrev pub IsLiveLine : Read → Type 0
 IsLiveLine (Ok (One e)) = IsLiveEvent e
+IsLiveLine (Ok (Given service order token who text)) = ⊥
 IsLiveLine (Ok (Settle n)) = ⊥
 IsLiveLine (Ok other) = Unit {0}
 IsLiveLine (Err fault) = Unit {0}

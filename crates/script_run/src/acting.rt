@@ -6,9 +6,10 @@ ghost use Rattle.script_run.specs.Stops.{Does, DoesFirst};
 
 use crate::asking::ask;
 use crate::counts::Said;
-use crate::previews::previewed;
+use crate::giving::given;
+use crate::previews::{previewed, rehearsed};
 use crate::printed::Printed;
-use crate::reports::{dump, log, notices, rows, verdict_over};
+use crate::reports::{dump, log, notices, programs, rows, verdict_over};
 use crate::settling::settle_all;
 use crate::telling::happen;
 use lang_core::NoMemory;
@@ -37,12 +38,26 @@ pub fn act(
     match line {
         Line::Blank => silent(alloc),
         Line::Event(event) => happen(alloc, world, event),
+        Line::Given {
+            service,
+            order,
+            token,
+            who,
+            text,
+        } => given(alloc, world, service, order, token, who, &text),
         Line::Ask { service, request } => ask(alloc, world, service, request),
         Line::Settle(rounds) => settle_all(alloc, world, rounds),
         Line::Rows { service } => rows(alloc, world, &service),
         Line::Log { service } => log(alloc, world, &service),
         Line::Notices { service } => notices(alloc, world, &service),
         Line::Preview { service, id, who } => previewed(alloc, world, &service, id, &who),
+        Line::Programs { service } => programs(alloc, world, &service),
+        Line::Rehearse {
+            service,
+            number,
+            who,
+            text,
+        } => rehearsed(alloc, world, &service, number, &who, &text),
         Line::Dump => dump(alloc, world),
         Line::Audit => verdict_over(alloc, world),
     }

@@ -8,6 +8,7 @@ mod counts;
 mod dump_entries;
 mod dump_words;
 mod dumping;
+mod giving;
 mod previews;
 mod printed;
 mod reports;

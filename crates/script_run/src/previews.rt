@@ -1,15 +1,19 @@
-// A line that prints what a cancellation would come to.
+// Lines that print what an order would come to.
 ghost use Rattle.std.specs.Prelude.{◌≡◌, ◌++◌, Err, IfOk, None, OnOk, string_bytes};
+ghost use Rattle.order_texts.specs.Texts.{program_given};
+ghost use Rattle.service_reports.specs.HandedOn.{Cancel};
 ghost use Rattle.script_text.specs.Happenings.{refused_line};
 ghost use Rattle.world_agreement.specs.Partners.{service_of};
-ghost use Rattle.script_run.specs.Previewing.{PrintsPreview, SaysPreview, preview_text, unshown_refusal};
+ghost use Rattle.script_run.specs.Previewing.{PrintsPreview, PrintsRehearsal, SaysShown, preview_text, unshown_refusal};
 
 use crate::counts::Said;
+use crate::giving::text_refused;
 use crate::printed::Printed;
 use lang_core::{Name, NoMemory, Text};
+use order_texts::{TextFault, program_given};
 use script_lines::LineFault;
 use script_text::{push_refused, push_refused_so};
-use service_reports::{Unshown, cancellation_shown};
+use service_reports::{Trial, Unshown, trial_shown};
 use std::alloc::Global;
 use world_settle::{Service, World};
 
@@ -31,15 +35,26 @@ fn refused_line(alloc: Global, service: &Service, why: Unshown) -> Result<Text, 
     Text::shared(line)
 }
 
-// What is printed of the cancellation of a request.
-#[tactic(auto, using(crate::proofs::PreviewLemmas::shown_prints, crate::proofs::PreviewLemmas::refused_prints))]
-fn preview_lines(alloc: Global, service: &Service, id: u64, who: &Text) -> Result<Text, NoMemory>
-    ensures { IfOk result (PrintsPreview id who.now service.now) }
+fn preview_text(
+    alloc: Global,
+    service: &Service,
+    shown: Result<Text, Unshown>,
+) -> Result<Text, NoMemory>
+    ensures { IfOk result (λ text. text ≡ preview_text service.now shown) }
 {
-    match cancellation_shown(alloc, service, id, who)? {
+    match shown {
         Ok(lines) => Ok(lines),
         Err(why) => refused_line(alloc, service, why),
     }
+}
+
+// What is printed of this order, if it is only tried.
+#[tactic(auto, using(crate::proofs::PreviewLemmas::shown_prints))]
+fn trial_lines(alloc: Global, service: &Service, trial: Trial, who: &Text) -> Result<Text, NoMemory>
+    ensures { IfOk result (PrintsPreview trial who.now service.now) }
+{
+    let shown = trial_shown(alloc, service, trial, who)?;
+    preview_text(alloc, service, shown)
 }
 
 /// What the cancellation of a request of the service of this name would come to, if the service is there.
@@ -50,11 +65,51 @@ pub fn previewed(
     id: u64,
     who: &Text,
 ) -> Result<Result<Said, LineFault>, NoMemory>
-    ensures { IfOk result (λ said. SaysPreview id who.now (service_of name.now world.now.services) said) }
+    ensures { IfOk result (λ said. SaysShown (PrintsPreview (Cancel id) who.now) (service_of name.now world.now.services) said) }
 {
     match world.service(name) {
-        Some(service) => Ok(Ok(Said::printed(Printed::report(preview_lines(
-            alloc, service, id, who,
+        Some(service) => Ok(Ok(Said::printed(Printed::report(trial_lines(
+            alloc,
+            service,
+            Trial::Cancel(id),
+            who,
+        )?)))),
+        None => Ok(Err(LineFault::Service)),
+    }
+}
+
+// What is printed of the correction of the program of this number by the one that a text spells.
+#[tactic(auto, using(crate::proofs::PreviewLemmas::program_prints, crate::proofs::PreviewLemmas::fault_prints))]
+fn rehearsal_lines(
+    alloc: Global,
+    service: &Service,
+    number: u64,
+    who: &Text,
+    text: &Text,
+) -> Result<Text, NoMemory>
+    ensures { IfOk result (PrintsRehearsal number who.now (program_given text.now) service.now) }
+{
+    match program_given(alloc, text)? {
+        Ok(program) => trial_lines(alloc, service, Trial::Correct(number, program), who),
+        Err(at) => text_refused(alloc, service, TextFault::Program(at)),
+    }
+}
+
+/// What the correction of a program of the service of this name would come to, if the service is there: of the one of this number, by
+/// the program that this text spells; where it spells none, that is told before all else.
+pub fn rehearsed(
+    alloc: Global,
+    world: &World,
+    name: &Name,
+    number: u64,
+    who: &Text,
+    text: &Text,
+) -> Result<Result<Said, LineFault>, NoMemory>
+    ensures { IfOk result (λ said. SaysShown (PrintsRehearsal number who.now (program_given text.now)) (service_of name.now world.now.services) said) }
+{
+    match world.service(name) {
+        Some(service) => Ok(Ok(Said::printed(Printed::report(rehearsal_lines(
+            alloc, service, number, who, text,
         )?)))),
         None => Ok(Err(LineFault::Service)),
     }

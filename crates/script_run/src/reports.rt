@@ -12,7 +12,9 @@ ghost use Rattle.script_run.specs.Audits.{SaysForged, verdict};
 ghost use Rattle.script_run.specs.Counting.{printed};
 ghost use Rattle.dump_lines.specs.Dumps.{dump_text};
 ghost use Rattle.service_reports.specs.Reports.{log_of_service, notices_of_service, rows_of_service};
-ghost use Rattle.script_run.specs.Plays.{audit_text, report_of};
+ghost use Rattle.service_reports.specs.Programs.{programs_of_service};
+ghost use Rattle.script_run.specs.Plays.{audit_text};
+ghost use Rattle.script_run.specs.Reporting.{report_of};
 
 use crate::counts::Said;
 use crate::dumping::dump_text;
@@ -21,7 +23,7 @@ use journal_rows::Verdict;
 use lang_core::{Name, NoMemory, Text};
 use report_text::verdict_text;
 use script_lines::LineFault;
-use service_reports::{log_of, notices_of, rows_of};
+use service_reports::{log_of, notices_of, programs_of, rows_of};
 use std::alloc::Global;
 use world_audit::audit;
 use world_settle::{Service, World, names_of};
@@ -56,6 +58,20 @@ pub fn notices(
 {
     match world.service(name) {
         Some(service) => Ok(Ok(Said::printed(Printed::report(notices_of(alloc, service, None)?)))),
+        None => Ok(Err(LineFault::Service)),
+    }
+}
+
+/// The programs of the service of this name and its rules, if it is there.
+pub fn programs(
+    alloc: Global,
+    world: &World,
+    name: &Name,
+) -> Result<Result<Said, LineFault>, NoMemory>
+    ensures { IfOk result (λ said. said ≡ report_of programs_of_service (service_of name.now world.now.services)) }
+{
+    match world.service(name) {
+        Some(service) => Ok(Ok(Said::printed(Printed::report(programs_of(alloc, service)?)))),
         None => Ok(Err(LineFault::Service)),
     }
 }

@@ -8,12 +8,10 @@ use Rattle.repair_messages.specs.declared.posts.Post.{Post}
 use Rattle.repair_messages.specs.declared.posts.Post.TheVariants.{Set, Token, Fetch}
 use Rattle.repair_messages.specs.declared.posts.PostName.{PostName}
 use Rattle.repair_messages.specs.declared.refusals.Refusal.{Refusal}
-use Rattle.journal_rows.specs.declared.orders.About.{About}
-use Rattle.journal_rows.specs.declared.orders.About.TheVariants as about
 use Rattle.journal_rows.specs.declared.row.Row.{Row}
 use Rattle.journal_rows.specs.declared.row.Row.TheVariants as row
 use Rattle.request_names.specs.Ids.{id_text}
-use Rattle.report_text.specs.Notices.{post_name_text}
+use Rattle.report_text.specs.Abouts.{about_text}
 use Rattle.report_text.specs.Reports.{response_text}
 use Rattle.service_events.specs.Refusals.{answer_refusal, arrive_refusal, call_refusal, give_refusal, order_refusal, post_refusal, take_refusal}
 use Rattle.service_events.specs.State.{Kept}
@@ -189,11 +187,7 @@ abbrev pub step_line : List ℕ → Stepped → List ℕ
 step_line service Idle = service ++ codes " idle\n"
 step_line service (Ran id answered) = service ++ (codes " ran " ++ (id_text service id ++ codes "\n"))
 
-abbrev pub about_text : List ℕ → About → List ℕ
-about_text service (about.Request id) = id_text service id
-about_text service (about.Post name) = post_name_text name
-
--- `S ordered TOKEN S/N rule R`
+-- `S ordered TOKEN ABOUT rule R`
 abbrev pub ordered_line : List ℕ → Option (List ℕ) → Result Ordered OrderRefused → Option ℕ → List ℕ
 ordered_line service None (Ok o) packet = []
 ordered_line service (Some token) (Ok o) packet =

@@ -1,13 +1,12 @@
 // Steps, orders and abandonments in a line.
 ghost use Rattle.std.specs.Prelude.{◌≡◌, ◌++◌, None, OnOk, Some, string_bytes, true};
 ghost use Rattle.std.specs.Option.{option_map};
-ghost use Rattle.script_text.specs.Happenings.{abandoned_line, about_text, ordered_line, step_line};
+ghost use Rattle.script_text.specs.Happenings.{abandoned_line, ordered_line, step_line};
 
 use crate::refusals::push_refused;
-use journal_rows::About;
 use lang_core::{Name, NoMemory, Text};
 use local_repair::Stepped;
-use report_text::push_post_name;
+use report_text::push_about;
 use request_names::push_id;
 use service_events::{OrderRefused, Ordered};
 
@@ -36,15 +35,6 @@ pub fn push_stepped(text: &mut String, service: &Name, stepped: Stepped) -> Resu
     match stepped {
         Stepped::Idle => push_idle(text, service),
         Stepped::Ran { id, answered: _ } => push_ran(text, service, id),
-    }
-}
-
-fn push_about(text: &mut String, service: &Name, about: About) -> Result<(), NoMemory>
-    ensures { OnOk result (string_bytes text.new ≡ string_bytes text.old ++ about_text service.now about) }
-{
-    match about {
-        About::Request(id) => push_id(text, service, id),
-        About::Post(name) => push_post_name(text, name),
     }
 }
 

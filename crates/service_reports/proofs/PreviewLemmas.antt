@@ -6,15 +6,16 @@ use Rattle.preview_core.specs.Previews.{preview_memory}
 use Rattle.preview_core.specs.declared.refused.PreviewRefused.{PreviewRefused}
 use Rattle.preview_core.specs.declared.refused.PreviewRefused.TheVariants as refused
 use Rattle.preview_core.specs.declared.told.Preview.{Preview}
+use Rattle.preview_core.specs.declared.trial.Trial.{Trial}
 use Rattle.service_reports.specs.Lines.{or_nothing, shown_text}
 use Rattle.service_reports.specs.Previews.{IsPreviewOf, IsPreviewUntilIdle, IsShownOf, IsShownUntilIdle, reason}
 use Rattle.service_reports.specs.declared.previews.Unshown.{Unshown}
 
-module _ (id : ℕ) (who : List ℕ) (s : Kept) where
-  pub lines_shown : (shown : Preview) (text : List ℕ) → IsPreviewOf id who s (Ok shown) → text ≡ or_nothing (shown_text s shown) → IsShownOf id who s (Ok text)
+module _ (trial : Trial) (who : List ℕ) (s : Kept) where
+  pub lines_shown : (shown : Preview) (text : List ℕ) → IsPreviewOf trial who s (Ok shown) → text ≡ or_nothing (shown_text s shown) → IsShownOf trial who s (Ok text)
   lines_shown shown text is told = (Ok shown, is, ap (λ (t : List ℕ). Some (Ok t)) (sym told))
 
-  pub reason_shown : (why : PreviewRefused) (told : Unshown) → Unless (preview_memory why) (IsPreviewOf id who s (Err why)) Unit → reason why ≡ Some told → IsShownOf id who s (Err told)
+  pub reason_shown : (why : PreviewRefused) (told : Unshown) → Unless (preview_memory why) (IsPreviewOf trial who s (Err why)) Unit → reason why ≡ Some told → IsShownOf trial who s (Err told)
   reason_shown refused.NoMemory told is same = absurd (cc same)
   reason_shown (refused.NotIdle what) told is same = (Err (refused.NotIdle what), is, ap (option_map Err) same)
   reason_shown (refused.Order at why) told is same = (Err (refused.Order at why), is, ap (option_map Err) same)
@@ -22,10 +23,10 @@ module _ (id : ℕ) (who : List ℕ) (s : Kept) where
 
   -- ---- the same of steps until one is idle
 
-  pub lines_until : (shown : Preview) (text : List ℕ) → IsPreviewUntilIdle id who s (Ok shown) → text ≡ or_nothing (shown_text s shown) → IsShownUntilIdle id who s (Ok text)
+  pub lines_until : (shown : Preview) (text : List ℕ) → IsPreviewUntilIdle trial who s (Ok shown) → text ≡ or_nothing (shown_text s shown) → IsShownUntilIdle trial who s (Ok text)
   lines_until shown text is told = (Ok shown, is, ap (λ (t : List ℕ). Some (Ok t)) (sym told))
 
-  pub reason_until : (why : PreviewRefused) (told : Unshown) → Unless (preview_memory why) (IsPreviewUntilIdle id who s (Err why)) Unit → reason why ≡ Some told → IsShownUntilIdle id who s (Err told)
+  pub reason_until : (why : PreviewRefused) (told : Unshown) → Unless (preview_memory why) (IsPreviewUntilIdle trial who s (Err why)) Unit → reason why ≡ Some told → IsShownUntilIdle trial who s (Err told)
   reason_until refused.NoMemory told is same = absurd (cc same)
   reason_until (refused.NotIdle what) told is same = (Err (refused.NotIdle what), is, ap (option_map Err) same)
   reason_until (refused.Order at why) told is same = (Err (refused.Order at why), is, ap (option_map Err) same)

@@ -1,4 +1,4 @@
--- Of each cancellation one thing is shown, and no other.
+-- Of each order one thing is shown, and no other.
 use Rattle.std.proofs.Common.{◌≡◌, ℕ, List, [], ◌∷◌, Option, Some, None, MatchOption, Result, Ok, Err, option_map, refl, sym, ap, ◌∙◌}
 use Rattle.journal_rows.specs.declared.verdict.Outstanding.{Outstanding}
 use Rattle.service_events.specs.State.{Kept, or_else}
@@ -9,7 +9,6 @@ use Rattle.preview_core.specs.declared.refused.PreviewRefused.{PreviewRefused}
 use Rattle.preview_core.specs.declared.refused.PreviewRefused.TheVariants as refused
 use Rattle.preview_core.specs.declared.told.Preview.{Preview}
 use Rattle.preview_core.specs.declared.trial.Trial.{Trial}
-use Rattle.preview_core.specs.declared.trial.Trial.TheVariants.{Cancel}
 use Rattle.preview_core.proofs.AloneLemmas.{preview_alone}
 use Rattle.preview_core.proofs.MadeLemmas.{has_preview}
 use Rattle.service_reports.specs.Previews.{IsPreviewOf, IsShownOf, shown_of}
@@ -29,20 +28,20 @@ never_lacks s trials who (Some what) early is = absurd (cc is)
 never_lacks s trials who None (Some number) is = absurd (cc is)
 never_lacks s trials who None None shows = never_shows s shows.0 (shows.2)
 
-told_of : (id : ℕ) (who : List ℕ) (s : Kept) (result : Result Preview PreviewRefused) → IsPreviewOf id who s result → (shown : Result (List ℕ) Unshown) × (shown_of s result ≡ Some shown)
-told_of id who s (Ok p) is = (_, refl)
-told_of id who s (Err refused.NoMemory) is = absurd (never_lacks s (Cancel id ∷ []) who (not_idle s) (untimely s) is)
-told_of id who s (Err (refused.NotIdle what)) is = (_, refl)
-told_of id who s (Err (refused.Order at why)) is = (_, refl)
-told_of id who s (Err (refused.Untimely number)) is = (_, refl)
+told_of : (trial : Trial) (who : List ℕ) (s : Kept) (result : Result Preview PreviewRefused) → IsPreviewOf trial who s result → (shown : Result (List ℕ) Unshown) × (shown_of s result ≡ Some shown)
+told_of trial who s (Ok p) is = (_, refl)
+told_of trial who s (Err refused.NoMemory) is = absurd (never_lacks s (trial ∷ []) who (not_idle s) (untimely s) is)
+told_of trial who s (Err (refused.NotIdle what)) is = (_, refl)
+told_of trial who s (Err (refused.Order at why)) is = (_, refl)
+told_of trial who s (Err (refused.Untimely number)) is = (_, refl)
 
-pub has_shown : (id : ℕ) (who : List ℕ) (s : Kept) → (shown : Result (List ℕ) Unshown) × IsShownOf id who s shown
-has_shown id who s =
-    let made = has_preview s (Cancel id ∷ []) who in
-    let told = told_of id who s made.0 made.1 in
+pub has_shown : (trial : Trial) (who : List ℕ) (s : Kept) → (shown : Result (List ℕ) Unshown) × IsShownOf trial who s shown
+has_shown trial who s =
+    let made = has_preview s (trial ∷ []) who in
+    let told = told_of trial who s made.0 made.1 in
     (told.0, (made.0, made.1, told.1))
 
-pub one_shown : (id : ℕ) (who : List ℕ) (s : Kept) (a b : Result (List ℕ) Unshown) → IsShownOf id who s a → IsShownOf id who s b → a ≡ b
-one_shown id who s a b x y =
-    let same : Some a ≡ Some b = sym x.2 ∙ ap (shown_of s) (preview_alone s (Cancel id ∷ []) who x.0 y.0 x.1 y.1) ∙ y.2 in
+pub one_shown : (trial : Trial) (who : List ℕ) (s : Kept) (a b : Result (List ℕ) Unshown) → IsShownOf trial who s a → IsShownOf trial who s b → a ≡ b
+one_shown trial who s a b x y =
+    let same : Some a ≡ Some b = sym x.2 ∙ ap (shown_of s) (preview_alone s (trial ∷ []) who x.0 y.0 x.1 y.1) ∙ y.2 in
     cc same

@@ -1,2 +1,4 @@
--- How the name of a post is printed, for the crate above.
-pub use Rattle.report_text.specs.Notices.{post_name_text}
+-- How what an order is about is printed, and the orders that are tried, for the crates above.
+pub use Rattle.report_text.specs.Abouts.{about_text}
+pub use Rattle.preview_core.specs.declared.trial.Trial.{Trial}
+pub use Rattle.preview_core.specs.declared.trial.Trial.TheVariants.{Cancel, Correct}

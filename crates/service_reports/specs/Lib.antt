@@ -1,4 +1,5 @@
 pub mod Lines
 pub mod Previews
+pub mod Programs
 pub mod Reports
 pub mod HandedOn

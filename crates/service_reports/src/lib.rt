@@ -1,11 +1,14 @@
-//! Reports of a service as texts: its rows, its log, what it has held, and what the cancellation of a request would come to.
+//! Reports of a service as texts: its rows, its log, what it has held, its programs and rules, and what an order
+//! would come to.
 #![tactic(auto)]
 
 mod lines;
 mod previews;
+mod programs;
 mod reports;
 
-pub use preview_core::Service;
-pub use previews::{Unshown, cancellation_shown};
-pub use report_text::push_post_name;
+pub use preview_core::{Service, Trial};
+pub use previews::{Unshown, trial_shown};
+pub use programs::programs_of;
+pub use report_text::push_about;
 pub use reports::{log_of, notices_of, rows_of};

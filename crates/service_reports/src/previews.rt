@@ -1,8 +1,7 @@
-// What is shown of the preview of a cancellation.
+// What is shown of the preview of one order.
 ghost use Rattle.std.specs.Prelude.{◌≡◌, [], ◌∷◌, Some, IfOk};
 ghost use Rattle.lang_base.specs.Memory.{Unless, lacks};
 ghost use Rattle.preview_core.specs.Previews.{preview_memory};
-ghost use Rattle.preview_core.specs.declared.trial.Trial.TheVariants.{Cancel};
 ghost use Rattle.service_reports.specs.Previews.{IsPreviewOf, IsPreviewUntilIdle, IsShownOf, IsShownUntilIdle, reason};
 
 use crate::lines::shown_lines;
@@ -18,29 +17,29 @@ pub enum Unshown {
     NotIdle,
     /// The call of this number holds an answer to a later version of it than its own; it is the least such number.
     Untimely(u64),
-    /// The cancellation would be refused so.
+    /// The order would be refused so.
     Order(OrderRefused),
 }
 
-fn cancellation(alloc: Global, id: u64) -> Result<Trials, NoMemory>
-    ensures { IfOk result (λ trials. trials ≡ Cancel id ∷ []) }
+fn alone(alloc: Global, trial: Trial) -> Result<Trials, NoMemory>
+    ensures { IfOk result (λ trials. trials ≡ trial ∷ []) }
 {
     let mut trials = Trials::new(alloc);
-    trials.push(Trial::Cancel(id))?;
+    trials.push(trial)?;
     Ok(trials)
 }
 
-// What would come of the cancellation of this request, ordered by this user.
+// What would come of this order alone, given by this user.
 fn preview_of(
     alloc: Global,
     service: &Service,
-    id: u64,
+    trial: Trial,
     who: &Text,
 ) -> Result<Preview, PreviewRefused>
-    ensures exact { Unless (lacks preview_memory result) (IsPreviewUntilIdle id who.now service.now result) Unit }
-    ensures within { Unless (lacks preview_memory result) (IsPreviewOf id who.now service.now result) Unit }
+    ensures exact { Unless (lacks preview_memory result) (IsPreviewUntilIdle trial who.now service.now result) Unit }
+    ensures within { Unless (lacks preview_memory result) (IsPreviewOf trial who.now service.now result) Unit }
 {
-    let trials = cancellation(alloc, id)?;
+    let trials = alone(alloc, trial)?;
     preview(alloc, service, &trials, who)
 }
 
@@ -55,21 +54,21 @@ fn reason(why: PreviewRefused) -> Result<Unshown, NoMemory>
     }
 }
 
-/// What would come of the cancellation of this request, ordered by this user, and of repair steps until one is idle, as lines, or
-/// why nothing is shown. The service stays.
+/// What would come of this order, given by this user, and of repair steps until one is idle, as lines, or why nothing is shown.
+/// The service stays.
 #[tactic(auto, using(crate::proofs::PreviewLemmas::lines_shown, crate::proofs::PreviewLemmas::lines_until, crate::proofs::PreviewLemmas::reason_shown, crate::proofs::PreviewLemmas::reason_until))]
-pub fn cancellation_shown(
+pub fn trial_shown(
     alloc: Global,
     service: &Service,
-    id: u64,
+    trial: Trial,
     who: &Text,
 ) -> Result<Result<Text, Unshown>, NoMemory>
-    ensures exact { IfOk result (IsShownUntilIdle id who.now service.now) }
+    ensures exact { IfOk result (IsShownUntilIdle trial who.now service.now) }
 
     // There are at most as many steps as entries.
-    ensures within { IfOk result (IsShownOf id who.now service.now) }
+    ensures within { IfOk result (IsShownOf trial who.now service.now) }
 {
-    match preview_of(alloc, service, id, who) {
+    match preview_of(alloc, service, trial, who) {
         Ok(shown) => Ok(Ok(shown_lines(alloc, service, &shown)?)),
         Err(why) => Ok(Err(reason(why)?)),
     }

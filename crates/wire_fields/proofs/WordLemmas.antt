@@ -10,7 +10,7 @@ use Rattle.std.proofs.lemmas.Str.Ascii.{IsAscii-cons}
 use Rattle.lang_base.specs.Characters.{is_lower}
 use Rattle.repair_messages.specs.Refusals.{has_number, is_spelled, said_words, word_said, word_status, word_text}
 use Rattle.repair_messages.specs.declared.refusals.RefusalWord.{RefusalWord}
-use Rattle.repair_messages.specs.declared.refusals.RefusalWord.TheVariants.{NoMemory, Full, NotYet, Gone, NoFlight, Denied, Unknown, Foreign, NoSuchRequest, NotHeld, NotOutside, TooOld, NotQuiet}
+use Rattle.repair_messages.specs.declared.refusals.RefusalWord.TheVariants.{NoMemory, Full, NotYet, Gone, NoFlight, Denied, Unknown, Foreign, NoSuchRequest, NotHeld, NotOutside, TooOld, NotQuiet, NoSuchProgram}
 use Rattle.wire_fields.specs.Unread.{is_spelled as is_unread, unread_text, unread_word, unread_words}
 use Rattle.wire_fields.specs.Words.{alone, cut_space, lone_status, numbered, numbered_status, refusal_of, refusal_text, unread_or}
 use Rattle.wire_fields.specs.declared.unread.UnreadWord.{UnreadWord}
@@ -69,6 +69,7 @@ lower_word NotHeld = refl
 lower_word NotOutside = refl
 lower_word TooOld = refl
 lower_word NotQuiet = refl
+lower_word NoSuchProgram = refl
 
 unnumbered : (text : List ℕ) (word : RefusalWord) (b : Bool) → word_said text ≡ Some word → has_number word ≡ b
     → IsSome (cond b None (Some (word_status word))) → is_some (numbered_status text) ≡ false

@@ -15,10 +15,15 @@ pub enum ConsoleWord {
     Create,
     Retry,
     Fold,
+    Deploy,
+    Correct,
+    Rules,
     Notices,
     Log,
     Rows,
+    Programs,
     Preview,
+    Rehearse,
     Audit,
     Stop,
 }
@@ -52,7 +57,7 @@ impl Copied for ConsoleRequest {
     }
 }
 
-/// What the word asks for; None exactly where it is none of the twelve.
+/// What the word asks for; None exactly where it is none of these.
 #[tactic(auto, unfolding(crate::specs::Kinds::console_word))]
 pub fn console_word(word: &[u8]) -> Option<ConsoleWord>
     ensures { result ≡ console_word word.now }
@@ -69,14 +74,24 @@ pub fn console_word(word: &[u8]) -> Option<ConsoleWord>
         Some(ConsoleWord::Retry)
     } else if word == b"fold".as_slice() {
         Some(ConsoleWord::Fold)
+    } else if word == b"deploy".as_slice() {
+        Some(ConsoleWord::Deploy)
+    } else if word == b"correct".as_slice() {
+        Some(ConsoleWord::Correct)
+    } else if word == b"rules".as_slice() {
+        Some(ConsoleWord::Rules)
     } else if word == b"notices".as_slice() {
         Some(ConsoleWord::Notices)
     } else if word == b"log".as_slice() {
         Some(ConsoleWord::Log)
     } else if word == b"rows".as_slice() {
         Some(ConsoleWord::Rows)
+    } else if word == b"programs".as_slice() {
+        Some(ConsoleWord::Programs)
     } else if word == b"preview".as_slice() {
         Some(ConsoleWord::Preview)
+    } else if word == b"rehearse".as_slice() {
+        Some(ConsoleWord::Rehearse)
     } else if word == b"audit".as_slice() {
         Some(ConsoleWord::Audit)
     } else if word == b"stop".as_slice() {

@@ -7,7 +7,7 @@ use Rattle.repair_messages.specs.declared.messages.AnswerMessage.{AnswerMessage}
 use Rattle.repair_messages.specs.declared.posts.Post.{Post}
 use Rattle.repair_messages.specs.declared.posts.Post.TheVariants as posts
 use Rattle.repair_messages.specs.declared.refusals.RefusalWord.{RefusalWord}
-use Rattle.repair_messages.specs.declared.refusals.RefusalWord.TheVariants.{NoMemory, Full, NotYet, Gone, NoFlight, Denied, Unknown, Foreign, NoSuchRequest, NotHeld, NotOutside, TooOld, NotQuiet}
+use Rattle.repair_messages.specs.declared.refusals.RefusalWord.TheVariants.{NoMemory, Full, NotYet, Gone, NoFlight, Denied, Unknown, Foreign, NoSuchRequest, NotHeld, NotOutside, TooOld, NotQuiet, NoSuchProgram}
 use Rattle.call_registers.specs.declared.register.Why.{Why}
 use Rattle.call_registers.specs.declared.register.Why.TheVariants as why
 use Rattle.service_events.specs.Refusals.{refusing_post}
@@ -72,6 +72,7 @@ order_spelt order.NotHeld = inl (refl, refl)
 order_spelt (order.NotOutside id) = inr refl
 order_spelt (order.TooOld id) = inr refl
 order_spelt (order.NotQuiet id) = inr refl
+order_spelt (order.NoSuchProgram number) = inr refl
 
 -- the text of what has a spelling is read as it
 pub told_back : (word : List ℕ) (n : ℕ) → n < 2 ^ 64 → IsTold (word, n) → refusal_of (refusal_text word n) ≡ Some (word, n)
@@ -110,6 +111,7 @@ told_so NotHeld n refused is = absurd (cc is)
 told_so NotOutside n refused is = absurd (cc is)
 told_so TooOld n refused is = absurd (cc is)
 told_so NotQuiet n refused is = absurd (cc is)
+told_so NoSuchProgram n refused is = absurd (cc is)
 
 -- what is read as a refusal tells that one
 arrive_only : (text : List ℕ) (n : ℕ) (refused : ArriveRefused) → arrive_refused text n ≡ Some refused → ◌≡◌ {A = Told} (text, n) (arrive_told refused)
@@ -179,6 +181,7 @@ post_spelled NoSuchRequest refuses is = absurd (cc is)
 post_spelled NotHeld refuses is = absurd (cc is)
 post_spelled NotOutside refuses is = absurd (cc is)
 post_spelled NotQuiet refuses is = absurd (cc is)
+post_spelled NoSuchProgram refuses is = absurd (cc is)
 
 word_only : (text : List ℕ) (refuses : PostWord) → post_word text ≡ Some refuses → text ≡ post_word_text refuses
 unfolding post_word
@@ -221,7 +224,8 @@ order_named word n =
     (cond (same_text word (word_text NotHeld)) (Some order.NotHeld)
     (cond (same_text word (word_text NotOutside)) (Some (order.NotOutside n))
     (cond (same_text word (word_text TooOld)) (Some (order.TooOld n))
-    (cond (same_text word (word_text NotQuiet)) (Some (order.NotQuiet n)) None)))))))
+    (cond (same_text word (word_text NotQuiet)) (Some (order.NotQuiet n))
+    (cond (same_text word (word_text NoSuchProgram)) (Some (order.NoSuchProgram n)) None))))))))
 
 order_back : (why : OrderRefused) → order_named (order_told why).0 (order_told why).1 ≡ Some why
 unfolding order_named
@@ -233,6 +237,7 @@ order_back order.NotHeld = refl
 order_back (order.NotOutside id) = refl
 order_back (order.TooOld id) = refl
 order_back (order.NotQuiet id) = refl
+order_back (order.NoSuchProgram number) = refl
 
 pub order_apart : (why : OrderRefused) → IsOrderTold why
 order_apart why = λ other same.

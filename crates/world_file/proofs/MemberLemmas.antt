@@ -4,9 +4,8 @@ use Rattle.std.specs.List.{AllByRecursion, IsDistinct}
 use Rattle.std.proofs.lemmas.List.Elements.{All-cons, All-nil}
 use Rattle.lang_base.specs.Texts.{same_text}
 use Rattle.lang_tree.specs.declared.program.Route.{Route}
-use Rattle.authorise_rules.specs.Reading.{read_of as rules_of}
+use Rattle.authorise_rules.specs.Given.{GivenRules, given_of}
 use Rattle.authorise_rules.specs.declared.refused.RulesRefused.{RulesRefused}
-use Rattle.authorise_rules.specs.declared.rule.Rule.{Rule}
 use Rattle.handler_lang.specs.Reading.{read_of}
 use Rattle.handler_lang.specs.declared.refused.ProgramRefused.{ProgramRefused}
 use Rattle.world_file.specs.Fields.{Fields, Read}
@@ -38,12 +37,12 @@ distinct_more (first ∷ members) m apart free =
     map_more (x ∷ ms) m = ap (λ (names : List (List ℕ)). member_name x ∷ names) (map_more ms m)
 
 -- the name of a service that was read is free
-by_rules : (fields : Fields) (routes : List Route) (rules : Result (List Rule) RulesRefused) (m : Member) → with_rules fields routes rules ≡ Ok m → m.fields ≡ fields
+by_rules : (fields : Fields) (routes : List Route) (rules : Result GivenRules RulesRefused) (m : Member) → with_rules fields routes rules ≡ Ok m → m.fields ≡ fields
 by_rules fields routes (Ok rules) m e = let same : ◌≡◌ {A = Member} (record { fields = fields; program = routes; rules = rules }) m = cc in sym (ap (λ (x : Member). x.fields) same)
 by_rules fields routes (Err refused) m e = cc
 
 by_program : (fields : Fields) (program : Result (List Route) ProgramRefused) (m : Member) → with_program fields program ≡ Ok m → m.fields ≡ fields
-by_program fields (Ok routes) m e = by_rules fields routes (rules_of fields.rules) m e
+by_program fields (Ok routes) m e = by_rules fields routes (given_of fields.rules) m e
 by_program fields (Err refused) m e = cc
 
 by_name : (taken : Bool) (earlier : List Member) (fields : Fields) (m : Member) → is_taken earlier fields.name ≡ taken → member_of earlier (Ok fields) ≡ Ok m → is_taken earlier (member_name m) ≡ false

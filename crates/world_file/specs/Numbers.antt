@@ -1,10 +1,9 @@
 -- What is told of a refusal.
 use Rattle.std.specs.Prelude.{ℕ, List, ◌++◌, codes, decimal}
 use Rattle.handler_lang.specs.Numbers.{refusal_number as program_number}
-use Rattle.handler_lang.specs.declared.refused.ProgramRefused.{ProgramRefused}
-use Rattle.handler_lang.specs.declared.refused.ProgramRefused.TheVariants as program
 use Rattle.authorise_rules.specs.Reading.{refusal_number as rules_number}
 use Rattle.authorise_rules.specs.Refusals.{line_refused}
+use Rattle.order_texts.specs.Texts.{place_refused}
 use Rattle.world_file.specs.Fields.{field_word}
 use Rattle.world_file.specs.declared.refused.WorldRefused.{WorldRefused}
 use Rattle.world_file.specs.declared.refused.WorldRefused.TheVariants as refusal
@@ -19,16 +18,6 @@ refusal_number refusal.TooMany = 5
 refusal_number (refusal.Program name refused) = 6
 refusal_number (refusal.Rules name refused) = 7
 
--- the byte of a program's text at which it is refused
-abbrev pub refused_at : ProgramRefused → ℕ
-refused_at program.NoMemory = 0
-refused_at (program.Unexpected at) = at
-refused_at (program.BadString at) = at
-refused_at (program.BadNumber at) = at
-refused_at (program.BadPattern at) = at
-refused_at (program.TooDeep at) = at
-refused_at (program.TooLong at) = at
-
 -- the refusal's number, and what it is about, each behind a space
 abbrev pub refusal_text : WorldRefused → List ℕ
 refusal_text refusal.NoMemory = codes "0"
@@ -38,6 +27,6 @@ refusal_text (refusal.BadField field) = codes "3 " ++ field_word field
 refusal_text (refusal.Twice name) = codes "4 " ++ name
 refusal_text refusal.TooMany = codes "5"
 refusal_text (refusal.Program name refused) =
-    codes "6 " ++ (name ++ (codes " " ++ (decimal (program_number refused) ++ (codes " " ++ decimal (refused_at refused)))))
+    codes "6 " ++ (name ++ (codes " " ++ (decimal (program_number refused) ++ (codes " " ++ decimal (place_refused refused)))))
 refusal_text (refusal.Rules name refused) =
     codes "7 " ++ (name ++ (codes " " ++ (decimal (rules_number refused) ++ (codes " " ++ decimal (line_refused refused)))))

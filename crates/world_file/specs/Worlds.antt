@@ -7,9 +7,8 @@ use Rattle.lang_tree.specs.declared.program.Route.{Route}
 use Rattle.lang_base.specs.Memory.{Unless}
 use Rattle.handler_lang.specs.Reading.{read_of}
 use Rattle.handler_lang.specs.declared.refused.ProgramRefused.{ProgramRefused}
-use Rattle.authorise_rules.specs.Reading.{read_of as rules_of}
+use Rattle.authorise_rules.specs.Given.{GivenRules, given_of}
 use Rattle.authorise_rules.specs.declared.refused.RulesRefused.{RulesRefused}
-use Rattle.authorise_rules.specs.declared.rule.Rule.{Rule}
 use Rattle.serde_json.specs.Data.{Data, Items, no_items, item}
 use Rattle.serde_json.specs.Find.{get, as_array}
 use Rattle.serde_json.specs.Read.{read}
@@ -36,7 +35,7 @@ refusal_of (fault.Bad field) = BadField field
 pub record Member : Type 0 where
   pub fields : Fields
   pub program : List Route
-  pub rules : List Rule
+  pub rules : GivenRules
 
 abbrev pub member_name : Member → List ℕ
 member_name m = m.fields.name
@@ -46,13 +45,13 @@ abbrev pub is_taken : List Member → List ℕ → Bool
 is_taken earlier name = list_any (λ m. same_text (member_name m) name) earlier
 
 -- the service, where its rules are such
-abbrev pub with_rules : Fields → List Route → Result (List Rule) RulesRefused → Outcome Member
+abbrev pub with_rules : Fields → List Route → Result GivenRules RulesRefused → Outcome Member
 with_rules fields routes (Ok rules) = Ok (record { fields = fields; program = routes; rules = rules })
 with_rules fields routes (Err refused) = Err (Rules fields.name refused)
 
 -- the service, where its program is one, and then its rules are
 abbrev pub with_program : Fields → Result (List Route) ProgramRefused → Outcome Member
-with_program fields (Ok routes) = with_rules fields routes (rules_of fields.rules)
+with_program fields (Ok routes) = with_rules fields routes (given_of fields.rules)
 with_program fields (Err refused) = Err (Program fields.name refused)
 
 -- all fields are tested first, then the name among those of earlier services, then the program, then the rules

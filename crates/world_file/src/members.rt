@@ -1,6 +1,7 @@
 // The services of a world, read one after another.
 ghost use Rattle.std.specs.Prelude.{◌≡◌, [], ◌∷◌, ◌++◌, Ok, IfOk, IfErr, OnOk, map};
-ghost use Rattle.authorise_rules.specs.Reading.{read_of as rules_of};
+ghost use Rattle.authorise_rules.specs.Given.{given_of};
+ghost use Rattle.authorise_rules.specs.Reading.{Answers};
 ghost use Rattle.handler_lang.specs.Reading.{read_of};
 ghost use Rattle.world_file.specs.Spelled.{fields_of, member_seen, members_seen, read_in, seen};
 ghost use Rattle.world_file.specs.Worlds.{Refuses, is_taken, member_of, members_behind, with_program, with_rules};
@@ -8,9 +9,9 @@ ghost use Rattle.world_file.specs.Worlds.{Refuses, is_taken, member_of, members_
 use crate::field::FieldFault;
 use crate::fields::{Spelled, fields_in};
 use crate::refused::WorldRefused;
-use authorise_rules::{Rules, RulesRefused, read_rules};
+use authorise_rules::{GivenRules, RulesRefused, read_given};
 use handler_lang::{ProgramRefused, read_program};
-use lang_core::{Name, NoMemory, Program};
+use lang_core::{Name, NoMemory, Program, Text};
 use serde_json::Value;
 use std::alloc::Global;
 
@@ -19,7 +20,15 @@ use std::alloc::Global;
 pub struct Member<'v> {
     pub spelled: Spelled<'v>,
     pub program: Program,
-    pub rules: Rules,
+    pub rules: GivenRules,
+}
+
+// The rules that a text spells, with the text.
+fn rules_of(alloc: Global, text: &str) -> Result<GivenRules, RulesRefused>
+    ensures { Answers result (given_of text.now) }
+{
+    let text = Text::of(alloc, text)?;
+    read_given(alloc, &text)
 }
 
 // The service with these fields and this program, or why its rules are none.
@@ -29,11 +38,11 @@ fn with_rules(
     program: Program,
 ) -> Result<Member<'_>, WorldRefused>
     ensures member { IfOk result (λ member.
-        with_rules (fields_of spelled.entry) program (rules_of spelled.entry.rules.now) ≡ Ok (member_seen member)) }
+        with_rules (fields_of spelled.entry) program (given_of spelled.entry.rules.now) ≡ Ok (member_seen member)) }
     ensures refused { IfErr result (λ why.
-        Refuses why (with_rules (fields_of spelled.entry) program (rules_of spelled.entry.rules.now))) }
+        Refuses why (with_rules (fields_of spelled.entry) program (given_of spelled.entry.rules.now))) }
 {
-    match read_rules(alloc, spelled.rules) {
+    match rules_of(alloc, spelled.rules) {
         Ok(rules) => Ok(Member {
             spelled,
             program,

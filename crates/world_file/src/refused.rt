@@ -1,12 +1,12 @@
 // Why a file is refused as a world.
 ghost use Rattle.std.specs.Prelude.{◌≡◌};
-ghost use Rattle.authorise_rules.specs.Refusals.{line_refused};
-ghost use Rattle.world_file.specs.Numbers.{refused_at, refusal_number};
+ghost use Rattle.world_file.specs.Numbers.{refusal_number};
 
 use crate::field::{Field, FieldFault};
 use authorise_rules::RulesRefused;
 use handler_lang::ProgramRefused;
 use lang_core::{Name, NoMemory};
+use order_texts::{line_refused, place_refused};
 use std::fmt;
 
 /// Why the bytes of a file are refused as a world. Tests come in this order: JSON, the list of services, how many they are,
@@ -49,34 +49,6 @@ impl WorldRefused {
     }
 }
 
-// The byte of a program's text at which it is refused.
-fn refused_at(refused: ProgramRefused) -> u64
-    ensures { result ≡ refused_at refused }
-{
-    match refused {
-        ProgramRefused::NoMemory => 0,
-        ProgramRefused::Unexpected(at)
-        | ProgramRefused::BadString(at)
-        | ProgramRefused::BadNumber(at)
-        | ProgramRefused::BadPattern(at)
-        | ProgramRefused::TooDeep(at)
-        | ProgramRefused::TooLong(at) => at,
-    }
-}
-
-// The line of a text of rules at which it is refused.
-fn line_refused(refused: RulesRefused) -> u64
-    ensures { result ≡ line_refused refused }
-{
-    match refused {
-        RulesRefused::NoMemory => 0,
-        RulesRefused::BadVerb(line)
-        | RulesRefused::BadKind(line)
-        | RulesRefused::BadField(line)
-        | RulesRefused::TooMany(line) => line,
-    }
-}
-
 /// The refusal's number, and what it is about: a field, or a service's name, or that name, the number of its program's or
 /// its rules' refusal, and the byte or the line of the text where that stands.
 impl fmt::Display for WorldRefused {
@@ -105,7 +77,7 @@ impl fmt::Display for WorldRefused {
             WorldRefused::Program(name, refused) => {
                 let name = name.as_str();
                 let number = refused.number();
-                let place = refused_at(*refused);
+                let place = place_refused(*refused);
                 write!(f, "6 {name} {number} {place}")
             }
             WorldRefused::Rules(name, refused) => {

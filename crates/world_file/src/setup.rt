@@ -1,5 +1,5 @@
 // How a service is set up.
-use authorise_rules::Rules;
+use authorise_rules::GivenRules;
 use lang_base::both;
 use lang_core::{Copied, NoMemory, Setting, Text};
 use std::alloc::Global;
@@ -8,8 +8,8 @@ use std::alloc::Global;
 pub struct Setup {
     /// Its name, the names of the others, its program, and how heavy its journal may grow.
     pub setting: Setting,
-    /// By which it allows repairs.
-    pub rules: Rules,
+    /// By which it allows repairs at first, with their text.
+    pub rules: GivenRules,
     /// The secret that seals its messages, of 1 to 256 bytes.
     pub secret: Text,
     /// The secret that seals console requests, of 1 to 256 bytes.

@@ -16,6 +16,12 @@ returns-in-Notices-clause-early c = on_err _ (act_none c.args.world.now c.args.l
 pub returns-in-Preview-clause-early : goal.returns-in-Preview-clause-early
 returns-in-Preview-clause-early c = on_err _ (act_none c.args.world.now c.args.line)
 
+pub returns-in-Programs-clause-early : goal.returns-in-Programs-clause-early
+returns-in-Programs-clause-early c = on_err _ (act_none c.args.world.now c.args.line)
+
+pub returns-in-Rehearse-clause-early : goal.returns-in-Rehearse-clause-early
+returns-in-Rehearse-clause-early c = on_err _ (act_none c.args.world.now c.args.line)
+
 pub returns-in-Dump-clause-early : goal.returns-in-Dump-clause-early
 returns-in-Dump-clause-early c = on_err _ (act_none c.args.world.now c.args.line)
 
