@@ -37,7 +37,7 @@ pub fn program_given(
 fn rules_given(alloc: Global, text: &Text) -> Result<Result<Shared<GivenRules>, u64>, NoMemory>
     ensures { IfOk result (λ given. given ≡ rules_given text.now) }
 {
-    match read_given(alloc, text) {
+    match read_given(alloc, text.as_str()) {
         Ok(rules) => Ok(Ok(Shared::new(alloc, rules)?)),
         Err(RulesRefused::NoMemory) => Err(NoMemory),
         Err(refused) => Ok(Err(line_refused(refused))),

@@ -1,7 +1,6 @@
 // The services of a world, read one after another.
 ghost use Rattle.std.specs.Prelude.{◌≡◌, [], ◌∷◌, ◌++◌, Ok, IfOk, IfErr, OnOk, map};
 ghost use Rattle.authorise_rules.specs.Given.{given_of};
-ghost use Rattle.authorise_rules.specs.Reading.{Answers};
 ghost use Rattle.handler_lang.specs.Reading.{read_of};
 ghost use Rattle.world_file.specs.Spelled.{fields_of, member_seen, members_seen, read_in, seen};
 ghost use Rattle.world_file.specs.Worlds.{Refuses, is_taken, member_of, members_behind, with_program, with_rules};
@@ -11,7 +10,7 @@ use crate::fields::{Spelled, fields_in};
 use crate::refused::WorldRefused;
 use authorise_rules::{GivenRules, RulesRefused, read_given};
 use handler_lang::{ProgramRefused, read_program};
-use lang_core::{Name, NoMemory, Program, Text};
+use lang_core::{Name, NoMemory, Program};
 use serde_json::Value;
 use std::alloc::Global;
 
@@ -21,14 +20,6 @@ pub struct Member<'v> {
     pub spelled: Spelled<'v>,
     pub program: Program,
     pub rules: GivenRules,
-}
-
-// The rules that a text spells, with the text.
-fn rules_of(alloc: Global, text: &str) -> Result<GivenRules, RulesRefused>
-    ensures { Answers result (given_of text.now) }
-{
-    let text = Text::of(alloc, text)?;
-    read_given(alloc, &text)
 }
 
 // The service with these fields and this program, or why its rules are none.
@@ -42,7 +33,7 @@ fn with_rules(
     ensures refused { IfErr result (λ why.
         Refuses why (with_rules (fields_of spelled.entry) program (given_of spelled.entry.rules.now))) }
 {
-    match rules_of(alloc, spelled.rules) {
+    match read_given(alloc, spelled.rules) {
         Ok(rules) => Ok(Member {
             spelled,
             program,
