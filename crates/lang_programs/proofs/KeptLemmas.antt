@@ -1,8 +1,10 @@
 -- Programs that are kept as texts.
 use Rattle.std.proofs.Common.{◌≡◌, ◌∙◌, ◌≤◌, ℕ, Bool, true, false, List, length, Option, Some, None, Ok, refl, sym, ap, subst, arith}
 use Rattle.std.specs.Prelude.{nat_lt, is_some, if◌then◌else◌}
+use Rattle.std.specs.List.{list_all}
 use Rattle.std.proofs.lemmas.Bool.Decides.{nat_tests}
 use Rattle.lang_tokens.specs.Lexing.{lex, tokens}
+use Rattle.lang_tokens.specs.Spelling.{is_held}
 use Rattle.lang_tree.specs.Depths.{routes_fit}
 use Rattle.lang_tree.specs.declared.program.Route.{Route}
 use Rattle.lang_grammar.specs.Grammar.{program_tokens}
@@ -10,6 +12,7 @@ use Rattle.lang_grammar.specs.Printing.{text_of}
 use Rattle.lang_reader.specs.Readers.{most, program_of}
 use Rattle.handler_lang.specs.Spelled.{Spells}
 use Rattle.handler_lang.proofs.AgainStmts.{routes_again, routes_count}
+use Rattle.handler_lang.proofs.Spelled.{printed_spells}
 use Rattle.lang_programs.specs.Printed.{IsKept, is_long, kept_program, routes_or_none}
 
 -- a text that isn't long is read as what it spells
@@ -20,10 +23,13 @@ spelled_is_read text p spells fits short =
 
 -- a text that is kept alone is read back
 pub read_back : (text : List ℕ) → IsKept None text (kept_program None text) → program_of (tokens (lex text)) ≡ Ok (kept_program None text)
-read_back text kept = spelled_is_read text (kept_program None text) kept.spells kept.fits (sym kept.tree)
+read_back text kept = spelled_is_read text (kept_program None text) kept.spells kept.fits (sym kept.beside)
 
 -- what is kept of a program
-module _ (text : List ℕ) (p : List Route) (printed : text ≡ text_of p) (spells : Spells text p) (fits : routes_fit p ≡ true) where
+module _ (text : List ℕ) (p : List Route) (printed : text ≡ text_of p) (held : list_all is_held (program_tokens p) ≡ true) (fits : routes_fit p ≡ true) where
+  spells : Spells text p
+  spells = ap (λ (t : List ℕ). tokens (lex t)) printed ∙ printed_spells p fits held
+
   record IsKeptAs (tree : Option (List Route)) : Type 0 where
     pub program : kept_program tree text ≡ p
     pub kept : IsKept tree text (kept_program tree text)
@@ -31,7 +37,7 @@ module _ (text : List ℕ) (p : List Route) (printed : text ≡ text_of p) (spel
   keeps : (tree : Option (List Route)) → kept_program tree text ≡ p → is_some tree ≡ is_long text → IsKeptAs tree
   keeps tree same told = record {
     program = same;
-    kept = subst (λ (q : List Route). IsKept tree text q) (sym same) (record { text = printed; spells = spells; fits = fits; tree = told });
+    kept = subst (λ (q : List Route). IsKept tree text q) (sym same) (record { prints = printed; spells = spells; fits = fits; beside = told });
   }
 
   keeps_by : (long : Bool) → is_long text ≡ long → IsKeptAs (if long then Some p else None)
@@ -56,7 +62,7 @@ trees_same (Some p) (Some q) x both same = ap (λ (r : List Route). Some r) same
 
 module _ (t u : Option (List Route)) (x y : List ℕ) (left : IsKept t x (kept_program t x)) (right : IsKept u y (kept_program u y)) (same : kept_program t x ≡ kept_program u y) where
   pub same_kept_text : x ≡ y
-  same_kept_text = left.text ∙ ap text_of same ∙ sym right.text
+  same_kept_text = left.prints ∙ ap text_of same ∙ sym right.prints
 
   pub same_kept_tree : t ≡ u
-  same_kept_tree = trees_same t u x (left.tree ∙ ap is_long same_kept_text ∙ sym right.tree) (same ∙ ap (kept_program u) (sym same_kept_text))
+  same_kept_tree = trees_same t u x (left.beside ∙ ap is_long same_kept_text ∙ sym right.beside) (same ∙ ap (kept_program u) (sym same_kept_text))

@@ -23,7 +23,7 @@ is_long text = nat_lt 65536 (length (tokens (lex text)))
 
 -- the text is the one that is printed of the program, and the tree is kept beside it exactly where the text is too long to be read back
 pub record IsKept (tree : Option (List Route)) (text : List ℕ) (program : List Route) : Type 0 where
-  pub text : text ≡ text_of program
+  pub prints : text ≡ text_of program
   pub spells : Spells text program
   pub fits : routes_fit program ≡ true
-  pub tree : is_some tree ≡ is_long text
+  pub beside : is_some tree ≡ is_long text

@@ -5,8 +5,8 @@ ghost use Rattle.lang_grammar.specs.Printing.{text_of};
 ghost use Rattle.lang_programs.specs.Printed.{IsKept, is_long, kept_program};
 
 use crate::stmts::same_routes;
-use handler_lang::print_program;
 use lang_core::{Copied, LONGEST_TEXT, NoMemory, Program, Routes, Same, Text};
+use lang_grammar::print_routes;
 use lang_reader::{ReadFailed, routes};
 use lang_tokens::lex;
 use std::alloc::Global;
@@ -72,6 +72,7 @@ fn program_from(routes: Routes) -> Program
 }
 
 // The program of a text that is kept alone.
+#[tactic(auto, using(crate::proofs::KeptLemmas::read_back))]
 fn read_again(alloc: Global, text: &Text) -> Result<Program, NoMemory>
     requires { IsKept None text.now (kept_program None text.now) }
     ensures { IfOk result (λ program. program ≡ kept_program None text.now) }
@@ -86,10 +87,11 @@ fn read_again(alloc: Global, text: &Text) -> Result<Program, NoMemory>
 
 impl ProgramText {
     /// The program as it is printed.
+    #[tactic(auto, using(crate::proofs::KeptLemmas::kept_is, crate::proofs::KeptLemmas::kept_so))]
     pub fn of(alloc: Global, program: &Program) -> Result<ProgramText, NoMemory>
         ensures { IfOk result (λ kept. kept ≡ program.now) }
     {
-        let text = print_program(alloc, program)?;
+        let text = print_routes(alloc, program.routes())?;
         let tree = tree_beside(alloc, &text, program)?;
         Ok(ProgramText { text, tree })
     }
@@ -131,6 +133,7 @@ fn same_tree(left: &Option<Program>, right: &Option<Program>) -> bool
 }
 
 impl Same for ProgramText {
+    #[tactic(auto, using(crate::proofs::KeptLemmas::same_kept_text, crate::proofs::KeptLemmas::same_kept_tree))]
     fn is(&self, other: &ProgramText) -> bool {
         self.text.is(&other.text) && same_tree(&self.tree, &other.tree)
     }
