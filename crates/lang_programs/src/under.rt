@@ -45,14 +45,14 @@ impl Under {
 
     /// Its program.
     pub fn now(&self) -> &Shared<Deployed>
-        ensures { result.now ≡ self.now.now }
+        ensures { result.now ≡ self.entry.now.now }
     {
         &self.now
     }
 
     /// The program that its record was made under.
     pub fn ran(&self) -> &Shared<Deployed>
-        ensures { result.now ≡ self.now.ran }
+        ensures { result.now ≡ self.entry.now.ran }
     {
         match &self.ran {
             None => &self.now,
@@ -62,7 +62,7 @@ impl Under {
 
     /// Whether the record is known to be made under its program. Where this is false the two may still be the same.
     pub fn is_settled(&self) -> bool
-        ensures { result ≡ true → self.now.ran ≡ self.now.now }
+        ensures { result ≡ true → self.entry.now.ran ≡ self.entry.now.now }
     {
         self.ran.is_none()
     }
