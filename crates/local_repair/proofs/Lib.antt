@@ -1,4 +1,5 @@
 pub mod AgreeLemmas
+pub mod AlikeLemmas
 pub mod CallsLemmas
 pub mod ChangedLemmas
 pub mod CorrectionLemmas

@@ -75,22 +75,21 @@ impl Drop for Folded {
 impl Copied for Folded {
     fn copied(&self, alloc: Global) -> Result<Folded, NoMemory> {
         let given = both(self.request.copied(alloc), self.inputs.copied(alloc));
-        let asked = both(
-            both(self.origin.copied(alloc), self.program.copied(alloc)),
-            given,
-        );
+        let begun = both(self.origin.copied(alloc), self.program.copied(alloc));
+        let asked = both(begun, given);
         let called = both(self.calls.copied(alloc), self.answers.copied(alloc));
         let did = both(self.slots.copied(alloc), self.response.copied(alloc));
         let (asked, did) = both(asked, both(called, did))?;
+        let (origin, program) = asked.0;
         Ok(Folded {
             id: self.id,
-            origin: asked.0.0,
+            origin,
             version: self.version,
             request: asked.1.0,
             wanted: self.wanted,
             struck: self.struck,
             inputs: asked.1.1,
-            program: asked.0.1,
+            program,
             calls: did.0.0,
             answers: did.0.1,
             slots: did.1.0,
@@ -155,26 +154,25 @@ fn folded_with(alloc: Global, entry: &Entry, made: &Made) -> Result<Folded, NoMe
     ensures { IfOk result (λ folded. folded ≡ folded_with entry.now (record_in made.now)) }
 {
     let given = both(entry.request.copied(alloc), entry.inputs.copied(alloc));
-    let program = entry.under.now().get().text();
-    let asked = both(
-        both(entry.origin.copied(alloc), program.copied(alloc)),
-        given,
-    );
+    let text = entry.under.now().get().text();
+    let begun = both(entry.origin.copied(alloc), text.copied(alloc));
+    let asked = both(begun, given);
     let called = both(
         made.trace.calls.copied(alloc),
         made.trace.answers.copied(alloc),
     );
     let did = both(entry.slots.copied(alloc), made.trace.response.copied(alloc));
     let (asked, did) = both(asked, both(called, did))?;
+    let (origin, program) = asked.0;
     Ok(Folded {
         id: entry.id,
-        origin: asked.0.0,
+        origin,
         version: entry.version,
         request: asked.1.0,
         wanted: entry.wanted,
         struck: entry.struck,
         inputs: asked.1.1,
-        program: asked.0.1,
+        program,
         calls: did.0.0,
         answers: did.0.1,
         slots: did.1.0,
