@@ -1,23 +1,21 @@
 -- Requests under other programs, whose handlers are the same, replay alike.
-use Rattle.std.proofs.Common.{◌≡◌, ℕ, true, Bool, cond, List, [], ◌∷◌, Option, length, map, option_map, refl, sym, ap, ◌∙◌, subst}
+use Rattle.std.proofs.Common.{◌≡◌, ℕ, true, List, [], ◌∷◌, Option, All, length, map, option_map, refl, sym, ap, ◌∙◌, subst}
 use Rattle.std.specs.Option.{option_map_or}
 use Rattle.std.proofs.lemmas.List.Elements.{All-head, All-tail}
-use Rattle.std.specs.List.{All}
 use Rattle.lang_core.specs.Rows.{apply}
 use Rattle.lang_core.specs.declared.cells.Cell.{Cell}
 use Rattle.lang_core.specs.declared.inputs.Inputs.{Inputs}
 use Rattle.lang_core.specs.declared.request.Request.{Request}
 use Rattle.lang_core.specs.declared.request.Response.{Response}
 use Rattle.lang_core.specs.declared.setting.Setting.{Setting}
-use Rattle.lang_core.specs.declared.trace.CallMade.{CallMade}
 use Rattle.lang_core.specs.declared.trace.Trace.{Trace}
 use Rattle.lang_programs.specs.Settings.{with_program}
-use Rattle.execution.specs.Executions.{survives, Act, Deed, IsPlayed, IsReplay, Replays}
+use Rattle.execution.specs.Executions.{survives, Act, IsPlayed, IsReplay, Replays}
 use Rattle.execution.specs.HandedOn.{handler_of, run_of, Done, GivesAll}
 use Rattle.execution.proofs.HandedOn.{runs_alike}
 use Rattle.request_log.specs.Entries.{corrected, is_alive}
 use Rattle.request_log.specs.HandedOn.{Numbered}
-use Rattle.request_log.specs.Records.{record_in, record_of, Record}
+use Rattle.request_log.specs.Records.{record_in, Record}
 use Rattle.request_log.specs.declared.entry.Entry.{Entry}
 use Rattle.request_log.specs.declared.entry.Made.{Made}
 use Rattle.local_repair.specs.Current.{Consumed, IsRun}
@@ -29,7 +27,7 @@ use Rattle.local_repair.proofs.CorrectionLemmas.{but_program, IsButProgram}
 
 -- the one request is the other, as far as a run goes, but for its program; where it survives, that leads to the same handler
 pub record IsAlike (a b : Act) : Type 0 where
-  pub survives : survives b ≡ survives a
+  pub alive : survives b ≡ survives a
   pub request : b.request ≡ a.request
   pub inputs : b.inputs ≡ a.inputs
   pub numbers : b.numbers ≡ a.numbers
@@ -42,12 +40,12 @@ played_alike setting rows a b t same played =
     let own : Setting = with_program b.program setting in
     record {
       live = λ alive.
-          let before : survives a ≡ true = sym same.survives ∙ alive in
+          let before : survives a ≡ true = sym same.alive ∙ alive in
           ap (λ (q : Request). run_of own q b.inputs b.answers rows) same.request
           ∙ (ap (λ (i : Inputs). run_of own a.request i b.answers rows) same.inputs
           ∙ (ap (λ (xs : List Response). run_of own a.request a.inputs xs rows) same.answers
           ∙ (sym (runs_alike a.program b.program setting a.request a.inputs a.answers rows (same.handler before)) ∙ played.live before)));
-      dead = λ dead. played.dead (sym same.survives ∙ dead);
+      dead = λ dead. played.dead (sym same.alive ∙ dead);
       consumed = same.answers ∙ played.consumed;
       answered = ap length same.answers ∙ played.answered;
       named = ap length same.numbers ∙ played.named;
@@ -59,20 +57,20 @@ played_alike setting rows a b t same played =
 -- each is like the one of the other list at its place
 abbrev pub AreAlike : List Act → List Act → Type 0
 AreAlike [] [] = Unit {0}
-AreAlike (a ∷ as) (b ∷ bs) = IsAlike a b × AreAlike as bs
-AreAlike as bs = ⊥
+AreAlike (a ∷ acts) (b ∷ others) = IsAlike a b × AreAlike acts others
+AreAlike acts others = ⊥
 
-pub replay_alike : (setting : Setting) (as bs : List Act) (ts : List Trace) (rows last : List Cell) → AreAlike as bs → IsReplay setting rows as ts last
-    → IsReplay setting rows bs ts last
+pub replay_alike : (setting : Setting) (acts others : List Act) (ts : List Trace) (rows last : List Cell) → AreAlike acts others → IsReplay setting rows acts ts last
+    → IsReplay setting rows others ts last
 replay_alike setting [] [] ts rows last alike replay = replay
-replay_alike setting [] (b ∷ bs) ts rows last alike replay = absurd alike
-replay_alike setting (a ∷ as) [] ts rows last alike replay = absurd alike
-replay_alike setting (a ∷ as) (b ∷ bs) [] rows last alike replay = absurd replay
-replay_alike setting (a ∷ as) (b ∷ bs) (t ∷ ts) rows last alike replay =
-    (played_alike setting rows a b t alike.0 replay.0, replay_alike setting as bs ts (apply rows t.writes) last alike.1 replay.1)
+replay_alike setting [] (b ∷ others) ts rows last alike replay = absurd alike
+replay_alike setting (a ∷ acts) [] ts rows last alike replay = absurd alike
+replay_alike setting (a ∷ acts) (b ∷ others) [] rows last alike replay = absurd replay
+replay_alike setting (a ∷ acts) (b ∷ others) (t ∷ ts) rows last alike replay =
+    (played_alike setting rows a b t alike.0 replay.0, replay_alike setting acts others ts (apply rows t.writes) last alike.1 replay.1)
 
-pub replays_alike : (setting : Setting) (as bs : List Act) (rows last : List Cell) → AreAlike as bs → Replays setting rows as last → Replays setting rows bs last
-replays_alike setting as bs rows last alike r = record { traces = r.traces; replay = replay_alike setting as bs r.traces rows last alike r.replay }
+pub replays_alike : (setting : Setting) (acts others : List Act) (rows last : List Cell) → AreAlike acts others → Replays setting rows acts last → Replays setting rows others last
+replays_alike setting acts others rows last alike r = record { traces = r.traces; replay = replay_alike setting acts others r.traces rows last alike r.replay }
 
 -- ---- entries of a log
 
@@ -82,7 +80,7 @@ LeadsAlike e x = is_alive e ≡ true → handler_of e.under.now.program e.reques
 
 pub alike_with : (xs : List Response) (e x : Entry) → IsButProgram e x → LeadsAlike e x → IsAlike (act_with xs e) (act_with xs x)
 alike_with xs e x same leads = record {
-  survives = same.alive;
+  alive = same.alive;
   request = same.request;
   inputs = same.inputs;
   numbers = same.slots;

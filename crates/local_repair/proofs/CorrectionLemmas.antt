@@ -1,5 +1,5 @@
 -- A program in place of another one: which entries are stale then, and what is kept of them.
-use Rattle.std.proofs.Common.{◌≡◌, ◌↔◌, ℕ, ◌<◌, Bool, true, false, cond, List, [], ◌∷◌, Option, Some, None, IfSome, IsSomeAnd, All, AllPairs, Contains, nat_eq, length, get_or, take, map, refl, sym, ap, ◌∙◌, subst, inl, inr, arith, ◌+◌, ◌||◌, suc, zero}
+use Rattle.std.proofs.Common.{◌≡◌, ◌↔◌, ℕ, ◌<◌, Bool, true, false, cond, List, [], ◌∷◌, Option, Some, None, IfSome, IsSomeAnd, All, Contains, nat_eq, length, get_or, take, map, refl, sym, ap, ◌∙◌, subst, inl, inr, arith, ◌+◌, ◌||◌}
 use Rattle.std.proofs.lemmas.Bool.{cases_lt}
 use Rattle.std.proofs.lemmas.List.{get_or-map, get_or_default, length-map}
 use Rattle.std.proofs.lemmas.List.Elements.{All-get_or, All-map, All-weaker}
@@ -206,6 +206,9 @@ module _ (number : ℕ) (p : Numbered) where
 
 -- ---- marks
 
+never : true ≡ false → ⊥
+never h = cc
+
 or_false : (a b : Bool) → (a || b) ≡ false → (a ≡ false) × (b ≡ false)
 or_false true b h = let never : true ≡ false = h in cc
 or_false false b h = (refl, h)
@@ -218,8 +221,7 @@ place_marked number place e m m' reads marks = record {
   stays = λ q bare. (or_false (nat_eq q place) (is_marked q m.marks) (sym (marks q) ∙ bare)).1;
   handler = λ bare own.
       let none = (or_false (nat_eq place place) (is_marked place m.marks) (sym (marks place) ∙ bare)).0 in
-      let never : true ≡ false = sym (nat_same place) ∙ none in
-      cc;
+      absurd (never (sym (nat_same place) ∙ none));
 }
 
 -- where its handler is that of its record, it stays as it was
@@ -238,7 +240,7 @@ more_marked number place es e m m1 m2 within is before here = record {
   handlers = λ q d lt bare own. elim (cases_lt q place) [
     | inl less ↦ before.handlers q d less (here.stays q bare) own
     | inr more ↦ (let same : q ≡ place = omega arith in
-        let there : e ≡ get_or es q d = is ∙ get_or_default es place d e within ∙ ap (λ n. get_or es n d) (sym same) in
+        let there : e ≡ get_or es q d = is ∙ get_or_default es place e d within ∙ ap (λ n. get_or es n d) (sym same) in
         let H : Entry → Type 0 = λ x. has_program number x ≡ true → HasItsHandler x in
         subst H there (here.handler (subst (λ n. is_marked n m2.marks ≡ false) same bare)) own)
   ];
