@@ -1,12 +1,12 @@
 -- Flights under another program stand in the order of their numbers still.
-use Rattle.std.proofs.Common.{◌≡◌, ◌∙◌, sym, ap, refl, subst, ℕ, zero, suc, ◌+◌, ◌<◌, ◌≤◌, Bool, true, false, cond, List, [], ◌∷◌, length, get_or, map, take, nat_eq, nat_lt, arith, add-one}
+use Rattle.std.proofs.Common.{◌≡◌, ◌∙◌, sym, ap, refl, subst, ℕ, zero, suc, ◌+◌, ◌<◌, ◌≤◌, Bool, true, false, cond, not, List, [], ◌∷◌, length, get_or, map, take, nat_eq, nat_lt, arith, add-one}
 use Rattle.std.proofs.lemmas.Bool.{le-ltb}
 use Rattle.std.proofs.lemmas.Bool.Decides.{nat_tests}
 use Rattle.lang_lists.specs.Numbers.{RisesFrom}
 use Rattle.lang_lists.proofs.NumberLemmas.{at_least}
 use Rattle.lang_programs.specs.Numbered.{Numbered}
 use Rattle.flights.specs.Corrections.{corrected_flight, has_program}
-use Rattle.flights.specs.Numbers.{with_flight, IsRising}
+use Rattle.flights.specs.Numbers.{put_flight, with_flight, without_flight, IsRising}
 use Rattle.flights.specs.declared.flight.Flight.{Flight}
 
 abbrev id_of : Flight → ℕ
@@ -24,7 +24,8 @@ put_behind : (f g : Flight) (gs : List Flight) → g.id < f.id → with_flight f
 put_behind f g gs lt =
     let e : nat_eq g.id f.id ≡ false = other f.id g.id lt in
     let l : nat_lt f.id g.id ≡ false = le-ltb f.id g.id (omega arith) in
-    rw (e, l) refl
+    let rest : List Flight = without_flight f.id gs in
+    ap (λ b. put_flight f (cond (not b) (g ∷ rest) rest)) e ∙ ap (λ b. cond b (f ∷ g ∷ rest) (g ∷ put_flight f rest)) l
 
 module _ (c : Flight → Flight) (same : (f : Flight) → (c f).id ≡ f.id) where
   last_suc : (m i : ℕ) (fs : List Flight) (f : Flight) → RisesFrom id_of m fs → i < length fs → f ≡ get_or fs i f → with_flight (c f) (map c (take i fs)) ≡ map c (take (suc i) fs)
@@ -33,9 +34,9 @@ module _ (c : Flight → Flight) (same : (f : Flight) → (c f).id ≡ f.id) whe
   last_suc m (suc i) (x ∷ xs) f rises lt is =
       let within : i < length xs = omega arith in
       let least : x.id + 1 ≤ (get_or xs i f).id = at_least id_of (x.id + 1) i xs f rises.1 within in
-      let own = ap id_of is in
-      let here = same x in
-      let there = same f in
+      let own : f.id ≡ (get_or xs i f).id = ap id_of is in
+      let here : (c x).id ≡ x.id = same x in
+      let there : (c f).id ≡ f.id = same f in
       put_behind (c f) (c x) (map c (take i xs)) (omega arith) ∙ ap (λ l. c x ∷ l) (last_suc (x.id + 1) i xs f rises.1 within is)
 
   rising_map : (m : ℕ) (fs : List Flight) → RisesFrom id_of m fs → RisesFrom id_of m (map c fs)

@@ -24,9 +24,12 @@ impl Drop for Flights {
 }
 
 impl Model for Flights {
+    ghost use Rattle.flights.specs.Codes.{flights_code};
     ghost use Rattle.flights.specs.Numbers.{KeptFlights, IsRising};
 
     ghost Value = { KeptFlights };
+
+    ghost coded = { flights_code };
 
     ghost view = { λ f. record { list = f.list.list; spare = f.list.spare } };
 

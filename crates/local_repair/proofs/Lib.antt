@@ -7,6 +7,7 @@ pub mod CurrentLemmas
 pub mod FoldLemmas
 pub mod GivesLemmas
 pub mod HandlerLemmas
+pub mod HandlerTests
 pub mod HeldLemmas
 pub mod MarkingLemmas
 pub mod PastLemmas

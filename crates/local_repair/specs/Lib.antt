@@ -1,4 +1,5 @@
 pub mod Alone
+pub mod Codes
 pub mod Corrections
 pub mod Current
 pub mod Held

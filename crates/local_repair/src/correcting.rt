@@ -14,7 +14,10 @@ use std::alloc::Global;
 fn is_other(entry: &Entry, number: u64) -> bool
     ensures { result ≡ false → has_program number entry.now ≡ true → HasItsHandler entry.now }
 {
-    has_program(entry, number) && !has_its_handler(entry)
+    if !has_program(entry, number) {
+        return false;
+    }
+    !has_its_handler(entry)
 }
 
 // Marks the entry at a place, if it has the program of the number and another handler made its record.
@@ -22,9 +25,10 @@ fn mark_if_other(marks: &mut EntryMarks, place: usize, entry: &Entry, number: u6
     requires { place < length marks.old.reads }
     ensures { IsHandlerMarked number place entry.now marks.old marks.new }
 {
-    if is_other(entry, number) {
-        marks.mark(place);
+    if !is_other(entry, number) {
+        return;
     }
+    marks.mark(place);
 }
 
 // Marks each of these entries that has the program of the number, and whose record another handler made.

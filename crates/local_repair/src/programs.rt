@@ -41,5 +41,11 @@ fn leads_alike(entry: &Entry) -> bool
 pub(crate) fn has_its_handler(entry: &Entry) -> bool
     ensures { IsTrue result ↔ HasItsHandler entry.now }
 {
-    !entry.is_alive() || entry.under.is_settled() || leads_alike(entry)
+    if !entry.is_alive() {
+        return true;
+    }
+    if entry.under.is_settled() {
+        return true;
+    }
+    leads_alike(entry)
 }

@@ -54,10 +54,13 @@ impl Drop for Repairer {
 }
 
 impl Model for Repairer {
+    ghost use Rattle.local_repair.specs.Codes.{repairer_code};
     ghost use Rattle.local_repair.specs.Held.{IsKept};
     ghost use Rattle.local_repair.specs.Repairs.{KeptRepairer};
 
     ghost Value = { KeptRepairer };
+
+    ghost coded = { repairer_code };
 
     ghost view = { λ repairer. record {
       folded = repairer.log.folded;

@@ -1,3 +1,4 @@
+pub mod Codes
 pub mod Corrections
 pub mod Entries
 pub mod Keys

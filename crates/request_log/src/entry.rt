@@ -97,9 +97,12 @@ impl Drop for KeptEntry {
 }
 
 impl Model for KeptEntry {
+    ghost use Rattle.request_log.specs.contracts.entry.Entry as entry;
     ghost use Rattle.request_log.specs.declared.entry.Entry.{Entry};
 
     ghost Value = { Entry };
+
+    ghost coded = { entry.the_row.coded };
 
     ghost view = { λ kept. kept.inner.value };
 }

@@ -113,9 +113,12 @@ impl Drop for KeptFolded {
 }
 
 impl Model for KeptFolded {
+    ghost use Rattle.request_log.specs.contracts.folded.Folded as folded;
     ghost use Rattle.request_log.specs.declared.folded.Folded.{Folded};
 
     ghost Value = { Folded };
+
+    ghost coded = { folded.the_row.coded };
 
     ghost view = { λ kept. kept.inner.value };
 }

@@ -71,10 +71,13 @@ impl Drop for Log {
 }
 
 impl Model for Log {
+    ghost use Rattle.request_log.specs.Codes.{log_code};
     ghost use Rattle.request_log.specs.Entries.{KeptLog};
     ghost use Rattle.request_log.specs.Keys.{IsIndexed};
 
     ghost Value = { KeptLog };
+
+    ghost coded = { log_code };
 
     ghost view = { λ log. record { folded = log.folded; entries = log.items.items } };
 

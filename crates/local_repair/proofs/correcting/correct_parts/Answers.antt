@@ -1,6 +1,7 @@
 use Rattle.std.proofs.Common.{◌∙◌, ap, length}
 use Rattle.std.proofs.lemmas.List.{length-map}
 use Rattle.request_log.specs.Entries.{corrected}
+use Rattle.request_log.specs.HandedOn.{Numbered}
 use Rattle.local_repair.proofs.CorrectionLemmas.{marked_as}
 use Rattle.local_repair.proofs.correcting.correct_parts.Goals as goal
 
@@ -10,5 +11,5 @@ mark_others-requires c =
 
 pub returns-clause-marks : goal.returns-clause-marks
 returns-clause-marks c =
-    marked_as c.number.result c.args.program.now.number c.as_slice.result.now c.correct.new.log.entries c.args.marks.now c.mark_others.new.marks
-    (c.number.ensures ∙ ap (λ p. p.number) c.get.ensures) c.as_slice.ensures.entries c.mark_others.ensures
+    marked_as c.number.result c.args.program.now.number c.as_slice.result.now c.correct.new.self.entries c.args.marks.now c.mark_others.new.marks
+    (c.number.ensures ∙ ap (λ (p : Numbered). p.number) c.get.ensures) c.as_slice.ensures.entries c.mark_others.ensures

@@ -1,8 +1,6 @@
-use Rattle.std.proofs.Common.{List, length, map, refl, sym, ap, ◌∙◌, subst}
+use Rattle.std.proofs.Common.{length, map, refl, sym, ap, ◌∙◌}
 use Rattle.std.proofs.lemmas.List.{length-map}
-use Rattle.lang_core.specs.declared.cells.Cell.{Cell}
 use Rattle.request_log.specs.Entries.{corrected, KeptLog}
-use Rattle.request_log.specs.declared.entry.Entry.{Entry}
 use Rattle.log_index.specs.Marks.{KeptMarks}
 use Rattle.local_repair.specs.Held.{looked}
 use Rattle.local_repair.specs.Repairs.{KeptRepairer}
@@ -30,8 +28,6 @@ invariant_of-self-2 c =
 
 pub returns-clause-stale : goal.returns-clause-stale
 returns-clause-stale c =
-    let k = c.args.self.now in
+    let old = c.args.self.now in
     let seen = ap (λ (k : KeptRepairer). map (corrected c.args.number c.args.program.now) k.entries) c.self.view_is in
-    let new : List Entry = c.correct_parts.new.log.entries in
-    rw (ap (λ (k : KeptRepairer). k.base) c.self.view_is)
-    (stale_after c.args.number c.args.program.now k.base k.entries new (c.in_ok-correct_parts.ensures.entries ∙ seen))
+    stale_after c.args.number c.args.program.now old.base old.entries c.correct_parts.new.log.entries (c.in_ok-correct_parts.ensures.entries ∙ seen)
