@@ -2,7 +2,7 @@
 use Rattle.std.specs.Prelude.{ℕ, ◌≡◌, ◌+◌, Bool, true, false, if◌then◌else◌, is_some, List, [], ◌∷◌, ◌++◌, length, Option, Some, None, unwrap_or, find, position, insert}
 use Rattle.request_log.specs.Entries.{has_id}
 use Rattle.request_log.specs.Folded.{has_number}
-use Rattle.request_log.specs.HandedOn.{Inputs, Numbered, Request, both_under}
+use Rattle.request_log.specs.HandedOn.{Inputs, Numbered, Request, under_of}
 use Rattle.request_log.specs.declared.entry.Entry.{Entry}
 use Rattle.request_log.specs.declared.folded.Folded.{Folded}
 use Rattle.request_log.specs.HandedOn.{Outside}
@@ -18,7 +18,7 @@ created id request inputs program =
       wanted = true;
       struck = false;
       inputs = inputs;
-      under = both_under program;
+      under = under_of program;
       made = None;
       slots = [];
       answer_version = 0;

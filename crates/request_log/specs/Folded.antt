@@ -1,7 +1,7 @@
 -- Entries that are folded: nothing of them is repaired any more, and what they read and wrote is gone.
 use Rattle.std.specs.Prelude.{ℕ, Bool, ◌&&◌, not, List, [], ◌++◌, Option, Some, None, nat_eq, map, option_map}
 use Rattle.lang_core.specs.Origins.{is_call}
-use Rattle.lang_programs.specs.Under.{both_under}
+use Rattle.lang_programs.specs.Under.{under_of}
 use Rattle.request_log.specs.Records.{Record, record_of}
 use Rattle.request_log.specs.declared.entry.Entry.{Entry}
 use Rattle.request_log.specs.declared.folded.Folded.{Folded}
@@ -49,7 +49,7 @@ as_entry f =
       wanted = f.wanted;
       struck = f.struck;
       inputs = f.inputs;
-      under = both_under f.program;
+      under = under_of f.program;
       made = Some (record {
         alive = f.wanted && not f.struck;
         version = f.version;
