@@ -124,6 +124,6 @@ pub run_now : (setting : Setting) (e : Entry) (m : Made) (rows : List Cell) → 
     → handler_of e.under.ran.program e.request ≡ handler_of e.under.now.program e.request → GivesAll rows m.trace.reads
     → run_of (setting_of setting e) e.request e.inputs m.trace.answers rows ≡ Done m.trace
 run_now setting e m rows run alive asked same gives =
-    let then : Setting = setting_ran setting e in
+    let before : Setting = setting_ran setting e in
     sym (runs_alike e.under.ran.program e.under.now.program setting e.request e.inputs m.trace.answers rows same)
-    ∙ (ap (λ (q : Request). run_of then q e.inputs m.trace.answers rows) (sym asked) ∙ run.live alive rows gives)
+    ∙ (ap (λ (q : Request). run_of before q e.inputs m.trace.answers rows) (sym asked) ∙ run.live alive rows gives)

@@ -45,10 +45,10 @@ played setting consumed rows e m is r h =
     played_live : is_alive e ≡ true → run_of (setting_of setting e) e.request e.inputs (map consumed e.slots) rows ≡ Done m.trace
     played_live alive =
         let xs = map consumed e.slots in
-        let then : Setting = setting_ran setting e in
+        let before : Setting = setting_ran setting e in
         sym (runs_alike e.under.ran.program e.under.now.program setting e.request e.inputs xs rows (h.handler alive))
-        ∙ (ap (λ (q : Request). run_of then q e.inputs xs rows) (sym h.request)
-        ∙ (ap (λ ys. run_of then m.request e.inputs ys rows) (sym h.answers) ∙ r.live (h.alive ∙ alive) rows h.reads))
+        ∙ (ap (λ (q : Request). run_of before q e.inputs xs rows) (sym h.request)
+        ∙ (ap (λ ys. run_of before m.request e.inputs ys rows) (sym h.answers) ∙ r.live (h.alive ∙ alive) rows h.reads))
 
 -- the record of an entry that is current
 record RanNow (setting : Setting) (consumed : Consumed) (rows : List Cell) (e : Entry) : Type 0 where
