@@ -47,7 +47,7 @@ caller_of id o (SawAnswer a) h = tt
 caller_of id o (Confirmed c) h = tt
 caller_of id o row h = absurd h
 
-made_caller : (id : ℕ) (first : Option AskedRow) (row : Row) → IsCallerRow row → asked_step id first row ≡ first
+pub made_caller : (id : ℕ) (first : Option AskedRow) (row : Row) → IsCallerRow row → asked_step id first row ≡ first
 made_caller id first (Sent s) h = refl
 made_caller id first (SawAck a) h = refl
 made_caller id first (Noted t) h = refl

@@ -40,7 +40,7 @@ use Rattle.service_events.proofs.SearchLemmas.{some_and, if_some}
 -- the rows of a commit behind those of the calls too many
 abbrev pub commit_rows : Kept → Flight → Trace → List Row
 commit_rows s f t =
-    Asked (record { id = next_id s; origin = f.origin; request = f.request; inputs = f.inputs })
+    Asked (record { id = next_id s; origin = f.origin; request = f.request; inputs = f.inputs; program = f.program.number })
     ∷ (took_rows f.origin f.request ++ live_answer s f t ∷ [])
 
 -- ---- words after a row
@@ -72,19 +72,19 @@ module _ (s : Kept) (j : List Row) (h : IsLogged j s.entries s.replies) (f : Fli
   outside = record f { origin = Outside }
 
   abbrev asks : AskedRow
-  asks = record { id = next_id s; origin = Outside; request = f.request; inputs = f.inputs }
+  asks = record { id = next_id s; origin = Outside; request = f.request; inputs = f.inputs; program = f.program.number }
 
   abbrev answers : AnsweredRow
   answers = record { id = next_id s; origin = Outside; answer_version = 1; version = 0; response = t.response; live = true }
 
   abbrev outside_rows : List Row
-  outside_rows = Asked (record { id = next_id s; origin = Outside; request = f.request; inputs = f.inputs })
+  outside_rows = Asked (record { id = next_id s; origin = Outside; request = f.request; inputs = f.inputs; program = f.program.number })
       ∷ Answered (record { id = next_id s; origin = Outside; answer_version = 1; version = 0; response = t.response; live = true }) ∷ []
 
   fresh : nat_eq (next_id s) (next_id s) ≡ true
   fresh = eq-eqb (next_id s) (next_id s) refl
 
-  outside_made : asked (next_id s) (j ++ outside_rows) ≡ Some (record { id = next_id s; origin = Outside; request = f.request; inputs = f.inputs })
+  outside_made : asked (next_id s) (j ++ outside_rows) ≡ Some (record { id = next_id s; origin = Outside; request = f.request; inputs = f.inputs; program = f.program.number })
   outside_made =
       fold-append (asked_step (next_id s)) None j outside_rows
       ∙ cond-true (nat_eq (next_id s) (next_id s)) (first_asked (asked (next_id s) j) asks) (asked (next_id s) j) fresh
@@ -152,7 +152,7 @@ module _ (s : Kept) (j : List Row) (h : IsLogged j s.entries s.replies) (f : Fli
   calling = record f { origin = Call c n }
 
   abbrev call_asks : AskedRow
-  call_asks = record { id = next_id s; origin = Call c n; request = f.request; inputs = f.inputs }
+  call_asks = record { id = next_id s; origin = Call c n; request = f.request; inputs = f.inputs; program = f.program.number }
 
   abbrev call_took : TookRow
   call_took = record { caller = c; number = n; version = 1; desired = Some f.request; how = Live; who = (f.request).who; rule = 0 }
@@ -161,15 +161,15 @@ module _ (s : Kept) (j : List Row) (h : IsLogged j s.entries s.replies) (f : Fli
   call_answers = record { id = next_id s; origin = Call c n; answer_version = 1; version = 1; response = t.response; live = true }
 
   abbrev call_rows : List Row
-  call_rows = Asked (record { id = next_id s; origin = Call c n; request = f.request; inputs = f.inputs })
+  call_rows = Asked (record { id = next_id s; origin = Call c n; request = f.request; inputs = f.inputs; program = f.program.number })
       ∷ (Took (record { caller = c; number = n; version = 1; desired = Some f.request; how = Live; who = (f.request).who; rule = 0 })
       ∷ Answered (record { id = next_id s; origin = Call c n; answer_version = 1; version = 1; response = t.response; live = true }) ∷ [])
 
   abbrev asked_there : List Row
-  asked_there = j ++ Asked (record { id = next_id s; origin = Call c n; request = f.request; inputs = f.inputs }) ∷ []
+  asked_there = j ++ Asked (record { id = next_id s; origin = Call c n; request = f.request; inputs = f.inputs; program = f.program.number }) ∷ []
 
   abbrev took_there : List Row
-  took_there = (j ++ Asked (record { id = next_id s; origin = Call c n; request = f.request; inputs = f.inputs }) ∷ [])
+  took_there = (j ++ Asked (record { id = next_id s; origin = Call c n; request = f.request; inputs = f.inputs; program = f.program.number }) ∷ [])
       ++ Took (record { caller = c; number = n; version = 1; desired = Some f.request; how = Live; who = (f.request).who; rule = 0 }) ∷ []
 
   own : nat_eq (next_id s) (next_id s) ≡ true
@@ -307,5 +307,5 @@ committed_logged s f t h none =
     let free = callers_taken f.origin s.journal surplus callers ∙ none in
     let P : List Row → Type 0 = λ j. IsLogged j (s.entries ++ committed_entry s f t ∷ []) (s.replies ++ live_replies s (answer_index s f t) f.origin) in
     subst P
-    (rows_together s.journal surplus (Asked (record { id = next_id s; origin = f.origin; request = f.request; inputs = f.inputs })) (took_rows f.origin f.request) (live_answer s f t))
+    (rows_together s.journal surplus (Asked (record { id = next_id s; origin = f.origin; request = f.request; inputs = f.inputs; program = f.program.number })) (took_rows f.origin f.request) (live_answer s f t))
     (commit_at s (s.journal ++ surplus) f t (answer_index s f t) f.origin before free)

@@ -24,7 +24,7 @@ use Rattle.service_events.proofs.FlightLaws.{flying, around, to_entry, flown, fi
 module _ (s : Kept) (f : Flight) (t : Trace) where
   -- the rows behind the deletions
   abbrev asked_row : Row
-  asked_row = Asked (record { id = next_id s; origin = f.origin; request = f.request; inputs = f.inputs })
+  asked_row = Asked (record { id = next_id s; origin = f.origin; request = f.request; inputs = f.inputs; program = f.program.number })
 
   abbrev behind : List Row
   behind = (asked_row ∷ took_rows f.origin f.request) ++ live_answer s f t ∷ []

@@ -2,6 +2,7 @@
 use Rattle.std.proofs.Common.{◌≡◌, ℕ, zero, suc, ◌+◌, ◌<◌, ◌≤◌, List, [], ◌∷◌, ◌++◌, Option, Some, None, map, take, drop, length, refl, sym, ap, ◌∙◌, arith, take-append-drop, eq-eqb, append-nil}
 use Rattle.lang_core.specs.declared.trace.CallMade.{CallMade}
 use Rattle.lang_core.specs.declared.trace.Trace.{Trace}
+use Rattle.lang_programs.specs.Settings.{with_program}
 use Rattle.handler_run.specs.declared.state.Ran.TheVariants.{Done}
 use Rattle.handler_run.specs.Handlers.{run_of}
 use Rattle.handler_run.proofs.RunLaws.{takes_done, counts_done, reads_done, same_done}
@@ -50,8 +51,8 @@ commit_answers : (s : Kept) (f : Flight) (t : Trace) → FitsCalls (flying s f) 
 commit_answers s f t h few done =
     let k = length t.calls in
     let given = map (answers s) f.numbers in
-    let took = takes_done s.setting f.request f.inputs given (rows_after (base s) (unfolded s)) t done in
-    let made = counts_done s.setting f.request f.inputs given (rows_after (base s) (unfolded s)) t done in
+    let took = takes_done (with_program f.program.program s.setting) f.request f.inputs given (rows_after (base s) (unfolded s)) t done in
+    let made = counts_done (with_program f.program.program s.setting) f.request f.inputs given (rows_after (base s) (unfolded s)) t done in
     let w = flown s f in
     let at = fitting_at s f w h in
     let apart : Each (λ n. count n (drop k f.numbers) ≡ 0) (take k f.numbers) =
@@ -76,17 +77,18 @@ committed_current s f t h few done = record {
   alive = refl;
   version = refl;
   request = refl;
-  reads = reads_done s.setting f.request f.inputs (map (answers s) f.numbers) (rows_after (base s) (unfolded s)) t done;
+  reads = reads_done (with_program f.program.program s.setting) f.request f.inputs (map (answers s) f.numbers) (rows_after (base s) (unfolded s)) t done;
   answers = commit_answers s f t h few done;
+  handler = λ alive. refl;
 }
 
 -- and its record is the run on these rows, with what its calls consume
 pub committed_ran : (s : Kept) (f : Flight) (t : Trace) → FitsCalls (flying s f) → IsFew (committed s f t).service → flight_run s f ≡ Done t
-    → run_of s.setting f.request f.inputs (map (answers (committed s f t).service) (take (length t.calls) f.numbers)) (rows_after (base s) (unfolded s)) ≡ Done t
+    → run_of (with_program f.program.program s.setting) f.request f.inputs (map (answers (committed s f t).service) (take (length t.calls) f.numbers)) (rows_after (base s) (unfolded s)) ≡ Done t
 committed_ran s f t h few done =
     let given = map (answers s) f.numbers in
     let rows = rows_after (base s) (unfolded s) in
-    let gives = reads_done s.setting f.request f.inputs given rows t done in
-    let again = same_done s.setting f.request f.inputs given rows t done rows gives [] in
+    let gives = reads_done (with_program f.program.program s.setting) f.request f.inputs given rows t done in
+    let again = same_done (with_program f.program.program s.setting) f.request f.inputs given rows t done rows gives [] in
     let answers_are = append-nil t.answers ∙ commit_answers s f t h few done in
-    ap (λ xs. run_of s.setting f.request f.inputs xs rows) (sym answers_are) ∙ again
+    ap (λ xs. run_of (with_program f.program.program s.setting) f.request f.inputs xs rows) (sym answers_are) ∙ again

@@ -16,7 +16,7 @@ use Rattle.journal_rows.specs.declared.callee.AnsweredRow.{AnsweredRow}
 use Rattle.journal_rows.specs.declared.callee.AskedRow.{AskedRow}
 use Rattle.journal_rows.specs.declared.callee.TookRow.{TookRow}
 use Rattle.journal_rows.specs.declared.orders.About.{About}
-use Rattle.journal_rows.specs.declared.orders.About.TheVariants.{Request as OfRequest, Post as OfPost}
+use Rattle.journal_rows.specs.declared.orders.About.TheVariants.{Request as OfRequest, Post as OfPost, Program as OfProgram, Rules as OfRules}
 use Rattle.journal_rows.specs.declared.row.Row.{Row}
 use Rattle.journal_rows.specs.declared.row.Row.TheVariants.{Asked, Took, Acked, Answered, WasConfirmed, Ordered}
 use Rattle.journal_rows.specs.declared.words.Mark.{Mark}
@@ -30,7 +30,7 @@ use Rattle.service_events.proofs.SearchLemmas.{or_none}
 
 abbrev pub IsAboutEntry : ℕ → About → Type 0
 IsAboutEntry id (OfRequest n) = n ≡ id
-IsAboutEntry id (OfPost name) = Unit {0}
+IsAboutEntry id about = Unit {0}
 
 -- a row that speaks of no entry but that of this number and origin
 abbrev pub IsOf : ℕ → Origin → Row → Type 0
@@ -60,6 +60,8 @@ other_origin t origin (Call c n) is h = other_call t.caller t.number origin c n 
 other_about : (id id' : ℕ) (about : About) → IsAboutEntry id about → nat_eq id id' ≡ false → is_about id' about ≡ false
 other_about id id' (OfRequest n) is h = other_id n id id' is h
 other_about id id' (OfPost name) is h = refl
+other_about id id' (OfProgram m) is h = refl
+other_about id id' OfRules is h = refl
 
 asked_other : (id : ℕ) (origin : Origin) (id' : ℕ) → nat_eq id id' ≡ false → (first : Option AskedRow) (row : Row) → IsOf id origin row → asked_step id' first row ≡ first
 asked_other id origin id' h first (Asked a) of = rw (other_id a.id id id' of h) refl

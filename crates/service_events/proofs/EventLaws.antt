@@ -29,7 +29,7 @@ use Rattle.std.proofs.lemmas.List.Sums.{fold_push}
 use Rattle.lang_core.specs.declared.inputs.Inputs.{Inputs}
 use Rattle.journal_rows.specs.declared.orders.About.TheVariants.{Request as AboutRequest}
 use Rattle.journal_rows.specs.declared.orders.Command.{Command}
-use Rattle.journal_rows.specs.declared.orders.Command.TheVariants.{Cancel, Restore, Replace, Create, Retry, Fold}
+use Rattle.journal_rows.specs.declared.orders.Command.TheVariants.{Cancel, Restore, Replace, Create, Retry, Fold, Deploy, Correct, Rules}
 use Rattle.journal_rows.specs.declared.orders.OrderedRow.{OrderedRow}
 use Rattle.journal_rows.specs.declared.row.Row.TheVariants.{Ordered}
 use Rattle.service_events.specs.Calls.{noted}
@@ -37,6 +37,8 @@ use Rattle.service_events.specs.Orders.{carried_out, entry_of, first_unquiet, or
 use Rattle.service_events.specs.declared.refusals.OrderRefused.{OrderRefused}
 use Rattle.service_events.proofs.BehindLaws.{GoesBehind, behind_fits, behind_same}
 use Rattle.service_events.proofs.FoldLaw.{fold_horizon, fold_keeps}
+use Rattle.service_events.proofs.LiveUnder.{LeavesUnder, abandoned_under, admitted_under, answered_under, call_under, failed_under}
+use Rattle.service_events.proofs.RepairUnder.{order_where_under, posted_by_under, step_by_under, take_admitted_under, token_taken_where_under}
 use Rattle.service_events.proofs.LiveBehind.{LeavesBehind, abandoned_behind, admitted_behind, answered_behind, call_behind, failed_behind}
 use Rattle.service_events.proofs.RepairBehind.{ordered_behind, posted_by_behind, step_by_behind, take_admitted_behind, token_taken_where_behind}
 
@@ -131,6 +133,9 @@ order_horizon s f (Restore id) token who i ok calls = behind_fits s (noted (orde
 order_horizon s f (Replace id m p b) token who i ok calls = behind_fits s (noted (order_rows s (Replace id m p b) token who i) (carried_out s (Replace id m p b) who i)) f calls.sent calls.seen (ordered_behind s f (Replace id m p b) token who i ok.0)
 order_horizon s f (Create before after q) token who i ok calls = behind_fits s (noted (order_rows s (Create before after q) token who i) (carried_out s (Create before after q) who i)) f calls.sent calls.seen (ordered_behind s f (Create before after q) token who i ok.0)
 order_horizon s f (Retry name) token who i ok calls = behind_fits s (noted (order_rows s (Retry name) token who i) (carried_out s (Retry name) who i)) f calls.sent calls.seen (ordered_behind s f (Retry name) token who i ok.0)
+order_horizon s f (Deploy p) token who i ok calls = behind_fits s (noted (order_rows s (Deploy p) token who i) (carried_out s (Deploy p) who i)) f calls.sent calls.seen (ordered_behind s f (Deploy p) token who i ok.0)
+order_horizon s f (Correct k p) token who i ok calls = behind_fits s (noted (order_rows s (Correct k p) token who i) (carried_out s (Correct k p) who i)) f calls.sent calls.seen (ordered_behind s f (Correct k p) token who i ok.0)
+order_horizon s f (Rules g) token who i ok calls = behind_fits s (noted (order_rows s (Rules g) token who i) (carried_out s (Rules g) who i)) f calls.sent calls.seen (ordered_behind s f (Rules g) token who i ok.0)
 
 order_by_horizon : (s : Kept) (f : Fits s) (command : Command) (token who : List ℕ) (i : Inputs) (o : Option OrderRefused) → refused s command who ≡ o
     → FitsCalls (order_by s command token who i o).service → FitsHorizon (order_by s command token who i o).service
@@ -198,6 +203,9 @@ order_keeps s f (Restore id) token who i ok = behind_keeps s (noted (order_rows 
 order_keeps s f (Replace id m p b) token who i ok = behind_keeps s (noted (order_rows s (Replace id m p b) token who i) (carried_out s (Replace id m p b) who i)) (ordered_behind s f (Replace id m p b) token who i ok.0)
 order_keeps s f (Create before after q) token who i ok = behind_keeps s (noted (order_rows s (Create before after q) token who i) (carried_out s (Create before after q) who i)) (ordered_behind s f (Create before after q) token who i ok.0)
 order_keeps s f (Retry name) token who i ok = behind_keeps s (noted (order_rows s (Retry name) token who i) (carried_out s (Retry name) who i)) (ordered_behind s f (Retry name) token who i ok.0)
+order_keeps s f (Deploy p) token who i ok = behind_keeps s (noted (order_rows s (Deploy p) token who i) (carried_out s (Deploy p) who i)) (ordered_behind s f (Deploy p) token who i ok.0)
+order_keeps s f (Correct k p) token who i ok = behind_keeps s (noted (order_rows s (Correct k p) token who i) (carried_out s (Correct k p) who i)) (ordered_behind s f (Correct k p) token who i ok.0)
+order_keeps s f (Rules g) token who i ok = behind_keeps s (noted (order_rows s (Rules g) token who i) (carried_out s (Rules g) who i)) (ordered_behind s f (Rules g) token who i ok.0)
 
 order_by_keeps : (s : Kept) (f : Fits s) (command : Command) (token who : List ℕ) (i : Inputs) (o : Option OrderRefused) → refused s command who ≡ o
     → KeepsFolded s (order_by s command token who i o).service
@@ -224,6 +232,23 @@ event_keeps s (events.WritePost name) f = keeps_all s
 event_keeps s (events.Posted post reply) f = behind_keeps s (event s (events.Posted post reply)).service (event_behind s (events.Posted post reply) f)
 event_keeps s events.Step f = behind_keeps s (event s events.Step).service (event_behind s events.Step f)
 
+-- ---- programs and rules follow from the journal
+
+event_programs : (s : Kept) (e : Event) → Fits s → LeavesUnder (event s e)
+event_programs s (events.Arrive Outside q i) f = admitted_under s f Outside q i (or_else (is_crowded s) (is_heavy s))
+event_programs s (events.Arrive (Call c n) q i) f = arrives_either s c n q i LeavesUnder f.programs (call_under s f c n q i)
+event_programs s (events.CallAnswered id a) f = answered_under s f id a (flight_of id s) refl
+event_programs s (events.CallFailed id number why) f = failed_under s f id number why (flight_of id s) refl
+event_programs s (events.Abandon id) f = abandoned_under s f (flight_of id s)
+event_programs s (events.Take set i) f = takes_either s set i LeavesUnder f.programs (take_admitted_under s f set i (is_too_much s set))
+event_programs s (events.TakeToken t) f = token_taken_where_under s f t (register t.number s.registers)
+event_programs s (events.Give x) f = f.programs
+event_programs s (events.NextPost dest) f = f.programs
+event_programs s (events.WritePost name) f = f.programs
+event_programs s (events.Posted post reply) f = posted_either s post reply LeavesUnder f.programs (λ _ _. posted_by_under s f post reply)
+event_programs s events.Step f = step_by_under s f (stale_in (answers s) (base s) (unfolded s)) refl
+event_programs s (events.Order command token who i) f = order_where_under s f command token who i (ordered token s.journal)
+
 -- ---- all of it
 
 -- a service that fits its journal fits it after each event, where the journal after it has fewer rows than a number of 64 bits counts
@@ -243,4 +268,5 @@ event_fits s e f few =
       flights = calls.flights;
       orders = calls.orders;
       horizon = event_horizon s e f calls;
+      programs = event_programs s e f;
     }

@@ -1,5 +1,5 @@
 -- Flights in the order of their numbers: one put among them or taken out, and their origins.
-use Rattle.std.proofs.Common.{◌≡◌, ℕ, zero, suc, ◌+◌, ◌<◌, ◌≤◌, Bool, true, false, ◌&&◌, List, [], ◌∷◌, ◌++◌, Option, Some, None, AllPairs, find, nat_eq, nat_lt, refl, sym, ap, ◌∙◌, subst, inl, inr, arith, eqb-true, eq-eqb, ne_eqb, lt-ltb, le-ltb, ltb-true, ltb-false}
+use Rattle.std.proofs.Common.{◌≡◌, ℕ, zero, suc, ◌+◌, ◌<◌, ◌≤◌, Bool, true, false, ◌&&◌, List, [], ◌∷◌, ◌++◌, Option, Some, None, AllPairs, find, map, nat_eq, nat_lt, refl, sym, ap, ◌∙◌, subst, inl, inr, arith, eqb-true, eq-eqb, ne_eqb, lt-ltb, le-ltb, ltb-true, ltb-false}
 use Rattle.std.proofs.lemmas.Bool.{cases_Bool, or_parts}
 use Rattle.std.proofs.lemmas.List.Kept.{AllPairs-cons}
 use Rattle.std.specs.Cmp.{nat_eq_equiv}
@@ -143,6 +143,32 @@ flies_put journal xs f g ys id origin h =
       others = others_put xs f g ys id origin h.others;
       untaken = each_put (λ (x : Flight). last_taken_of x.origin journal ≡ None) xs f g ys h.untaken (ap (λ o. last_taken_of o journal) origin ∙ free);
     }
+
+-- ---- each is another one of the same number and origin
+
+each_mapped : (P Q : Flight → Type 0) (g : Flight → Flight) → ((f : Flight) → P f → Q (g f)) → (fs : List Flight) → Each P fs → Each Q (map g fs)
+each_mapped P Q g keeps [] h = tt
+each_mapped P Q g keeps (f ∷ fs) h = (keeps f h.0, each_mapped P Q g keeps fs h.1)
+
+module _ (g : Flight → Flight) (id : (f : Flight) → (g f).id ≡ f.id) (origin : (f : Flight) → (g f).origin ≡ f.origin) where
+  other_mapped : (f h : Flight) → AreOther f h → AreOther (g f) (g h)
+  other_mapped f h o =
+      let first = id f in
+      let second = id h in
+      let less = o.0 in
+      (omega (arith, first, second, less), ap (λ k. same_call_origin k (g h).origin) (origin f) ∙ ap (λ k. same_call_origin f.origin k) (origin h) ∙ o.1)
+
+  others_mapped : (fs : List Flight) → AllOther fs → AllOther (map g fs)
+  others_mapped [] h = tt
+  others_mapped (f ∷ fs) h = (each_mapped (AreOther f) (AreOther (g f)) g (other_mapped f) fs h.0, others_mapped fs h.1)
+
+  pub flies_mapped : (journal : List Row) (fs : List Flight) → Flies journal fs → Flies journal (map g fs)
+  flies_mapped journal fs h = record {
+    numbered = each_mapped (λ (f : Flight). 1 ≤ f.id) (λ (f : Flight). 1 ≤ f.id) g (λ f one. (let same = id f in omega (arith, same, one))) fs h.numbered;
+    others = others_mapped fs h.others;
+    untaken = each_mapped (λ (f : Flight). last_taken_of f.origin journal ≡ None) (λ (f : Flight). last_taken_of f.origin journal ≡ None) g
+        (λ f none. ap (λ o. last_taken_of o journal) (origin f) ∙ none) fs h.untaken;
+  }
 
 -- ---- where one is put
 

@@ -11,12 +11,12 @@ use Rattle.lang_core.specs.Origins.{is_call}
 use Rattle.lang_core.specs.declared.cells.Cell.{Cell}
 use Rattle.lang_core.specs.declared.ids.Origin.{Origin}
 use Rattle.lang_core.specs.declared.ids.Origin.TheVariants.{Outside, Call}
-use Rattle.request_log.specs.Entries.{has_id, has_origin, IsDistinct}
+use Rattle.lang_programs.specs.Under.{Under}
+use Rattle.request_log.specs.Entries.{find_call, has_id, has_origin, IsDistinct}
 use Rattle.request_log.specs.Folded.{as_entry, bare, bare_by, folded_with}
 use Rattle.request_log.specs.Records.{Record, record_in, record_of, recorded_calls}
 use Rattle.request_log.specs.declared.entry.Entry.{Entry}
 use Rattle.request_log.specs.declared.entry.Made.{Made}
-use Rattle.request_log.proofs.FoldedLemmas.{Leaves, distinct-map}
 use Rattle.local_repair.specs.Current.{AllCurrent, AllRuns, Consumed, IsCurrent, IsCurrentRecord, after_entry, rows_after}
 use Rattle.local_repair.specs.Histories.{ReplayAsKept}
 use Rattle.local_repair.specs.Tests.{is_current}
@@ -90,15 +90,16 @@ all_current s (e ∷ es) rows h = (h.0.current, all_current s es (after_entry ro
 
 -- ---- an entry that is bare
 
--- an entry like another one: others see the same of its record
+-- an entry like another one, but perhaps under another program: others see the same of its record
 pub record IsAlike (x y : Entry) : Type 0 where
-  pub same : y ≡ record x { made = y.made }
+  pub same : y ≡ record x { under = y.under; made = y.made }
   pub seen : record_of y ≡ record_of x
 
 pub alike_self : (x : Entry) → IsAlike x x
 alike_self x = record { same = refl; seen = refl }
 
-bare_same : (e : Entry) (o : Option Made) → bare_by e (option_map record_in o) ≡ record e { made = (bare_by e (option_map record_in o)).made }
+bare_same : (e : Entry) (o : Option Made)
+    → bare_by e (option_map record_in o) ≡ record e { under = (bare_by e (option_map record_in o)).under; made = (bare_by e (option_map record_in o)).made }
 bare_same e None = refl
 bare_same e (Some m) = refl
 
@@ -119,10 +120,11 @@ is_bare_by : (e : Entry) (o : Option Made) → IsSome o → IsSomeAnd (bare_by e
 is_bare_by e None some = cc
 is_bare_by e (Some m) some = record { alive = refl; version = refl; request = refl; reads = refl; writes = refl }
 
--- one that is bare stays as it is
-bare_again_by : (e : Entry) (o : Option Made) → e.made ≡ o → IsSomeAnd o (IsBare e) → bare_by e (option_map record_in o) ≡ e
-bare_again_by e None is h = absurd h
-bare_again_by e (Some m) is h =
+-- one that is bare, and whose record was made under its program, stays as it is
+bare_again_by : (e : Entry) (o : Option Made) → e.made ≡ o → IsSomeAnd o (IsBare e) → e.under.ran ≡ e.under.now → bare_by e (option_map record_in o) ≡ e
+bare_again_by e None is h ran = absurd h
+bare_again_by e (Some m) is h ran =
+    let under = sym ran in
     let alive = sym h.alive in
     let version = sym h.version in
     let request = sym h.request in
@@ -130,6 +132,7 @@ bare_again_by e (Some m) is h =
     let writes = sym h.writes in
     let kept : as_entry (folded_with e (record_in m)) ≡ record e { made = Some m } =
     (λ i. record e {
+      under = record { now = e.under.now; ran = under i };
       made = Some (record {
         alive = alive i;
         version = version i;
@@ -139,8 +142,12 @@ bare_again_by e (Some m) is h =
     }) in
     kept ∙ ap (λ (o : Option Made). record e { made = o }) (sym is)
 
-bare_again : (e : Entry) → IsSomeAnd e.made (IsBare e) → bare e ≡ e
-bare_again e h = bare_again_by e e.made refl h
+-- what is told of a folded entry
+abbrev IsBareEntry : Entry → Type 0
+IsBareEntry e = IsSomeAnd e.made (IsBare e) × (e.under.ran ≡ e.under.now)
+
+bare_again : (e : Entry) → IsBareEntry e → bare e ≡ e
+bare_again e h = bare_again_by e e.made refl h.0 h.1
 
 -- ---- logs whose entries are alike
 
@@ -159,12 +166,11 @@ alike_append [] (x' ∷ xs') ys ys' h k = absurd h
 alike_append (x ∷ xs) [] ys ys' h k = absurd h
 alike_append (x ∷ xs) (x' ∷ xs') ys ys' h k = (h.0, alike_append xs xs' ys ys' h.1 k)
 
-alike_past : (es : List Entry) → All (λ (e : Entry). IsSomeAnd e.made (IsBare e)) es → AreAlike es (map bare es)
+alike_past : (es : List Entry) → All IsBareEntry es → AreAlike es (map bare es)
 alike_past [] h = tt
 alike_past (e ∷ es) h =
-    let P : Entry → Type 0 = λ x. IsSomeAnd x.made (IsBare x) in
     let A : Entry → Type 0 = λ x. IsAlike e x in
-    (subst A (sym (bare_again e (All-head P e es h))) (alike_self e), alike_past es (All-tail P e es h))
+    (subst A (sym (bare_again e (All-head IsBareEntry e es h))) (alike_self e), alike_past es (All-tail IsBareEntry e es h))
 
 alike_quiet : (s : Kept) (es : List Entry) (rows : List Cell) → AreQuietEntries s rows es → AreAlike es (map bare es)
 alike_quiet s [] rows h = tt
@@ -224,49 +230,77 @@ same_calls (x ∷ xs) (y ∷ ys) h =
     let rest = same_calls xs ys h.1 in
     (λ i. head i ∷ rest i)
 
+none_alike : (o o' : Option Entry) → FoundAlike o o' → o ≡ None → o' ≡ None
+none_alike None None h none = refl
+none_alike None (Some y) h none = absurd h
+none_alike (Some x) o' h none = cc
+
+-- no number and no call stands twice among them either
+pub apart_alike : (xs ys : List Entry) → AreAlike xs ys → IsDistinct xs → IsDistinct ys
+apart_alike [] [] h d = tt
+apart_alike [] (y ∷ ys) h d = absurd h
+apart_alike (x ∷ xs) [] h d = absurd h
+apart_alike (x ∷ xs) (y ∷ ys) h d =
+    let id : y.id ≡ x.id = ap (λ (e : Entry). e.id) h.0.same in
+    let origin : y.origin ≡ x.origin = ap (λ (e : Entry). e.origin) h.0.same in (
+      record {
+        id = ap (λ k. find (has_id k) ys) id
+            ∙ none_alike (find (has_id x.id) xs) (find (has_id x.id) ys) (found_alike (has_id x.id) (λ v w a. ap (λ (e : Entry). nat_eq e.id x.id) a.same) xs ys h.1) d.0.id;
+        origin = ap (λ o. find_call o ys) origin ∙ uncalled x.origin d.0.origin;
+      },
+      apart_alike xs ys h.1 d.1,
+    )
+  where
+    uncalled : (o : Origin) → find_call o xs ≡ None → find_call o ys ≡ None
+    uncalled Outside none = refl
+    uncalled (Call c n) none =
+        none_alike (find (has_origin c n) xs) (find (has_origin c n) ys) (found_alike (has_origin c n) (λ v w a. ap (λ (e : Entry). is_call c n e.origin) a.same) xs ys h.1) none
+
 -- ---- such a log follows from the journal as the other one does
 
 module _ (j : List Row) (kept : List Reply) where
-  -- with another record that others see as the same
-  now_alike : (x : Entry) (made : Option Made) → IsAsNow j x → IsAsNow j (record x { made = made })
-  now_alike x made n = record { version = n.version; wanted = n.wanted; request = n.request; struck = n.struck }
+  -- under another program, and with another record that others see as the same
+  now_alike : (x : Entry) (under : Under) (made : Option Made) → IsAsNow j x → IsAsNow j (record x { under = under; made = made })
+  now_alike x under made n = record { version = n.version; wanted = n.wanted; request = n.request; struck = n.struck }
 
-  answered_alike : (x : Entry) (made : Option Made) → record_of (record x { made = made }) ≡ record_of x → HasAnswered j x → HasAnswered j (record x { made = made })
-  answered_alike x made seen h = record {
+  answered_alike : (x : Entry) (under : Under) (made : Option Made) → record_of (record x { under = under; made = made }) ≡ record_of x → HasAnswered j x
+      → HasAnswered j (record x { under = under; made = made })
+  answered_alike x under made seen h = record {
     answer = ap (option_map (answer_recorded x.answer_version)) seen ∙ h.answer;
     first = λ none. h.first (sym seen ∙ none);
   }
 
-  reply_alike : (x : Entry) (made : Option Made) (c : List ℕ) (n : ℕ) (o : Option Reply) → IsSomeAnd o (IsReply j c n x) → IsSomeAnd o (IsReply j c n (record x { made = made }))
-  reply_alike x made c n None h = h
-  reply_alike x made c n (Some p) h = record { caller = h.caller; number = h.number; version = h.version; wanted = h.wanted; answer_version = h.answer_version; due = h.due }
+  reply_alike : (x : Entry) (under : Under) (made : Option Made) (c : List ℕ) (n : ℕ) (o : Option Reply) → IsSomeAnd o (IsReply j c n x)
+      → IsSomeAnd o (IsReply j c n (record x { under = under; made = made }))
+  reply_alike x under made c n None h = h
+  reply_alike x under made c n (Some p) h = record { caller = h.caller; number = h.number; version = h.version; wanted = h.wanted; answer_version = h.answer_version; due = h.due }
 
-  replied_alike : (x : Entry) (made : Option Made) (o : Origin) → HasReply j kept x o → HasReply j kept (record x { made = made }) o
-  replied_alike x made Outside h = h
-  replied_alike x made (Call c n) h = reply_alike x made c n (reply x.id kept) h
+  replied_alike : (x : Entry) (under : Under) (made : Option Made) (o : Origin) → HasReply j kept x o → HasReply j kept (record x { under = under; made = made }) o
+  replied_alike x under made Outside h = h
+  replied_alike x under made (Call c n) h = reply_alike x under made c n (reply x.id kept) h
 
-  pub logged_alike : (xs ys : List Entry) → AreAlike xs ys → IsDistinct ys → IsLogged j xs kept → IsLogged j ys kept
-  logged_alike xs ys alike apart h = record {
+  pub logged_alike : (xs ys : List Entry) → AreAlike xs ys → IsLogged j xs kept → IsLogged j ys kept
+  logged_alike xs ys alike h = record {
     taken = h.taken;
     asked = record {
       rows = h.asked.rows;
       count = count_alike xs ys alike ∙ h.asked.count;
-      distinct = apart;
+      distinct = apart_alike xs ys alike h.asked.distinct;
       entries = λ id. made_alike (find (has_id id) xs) (find (has_id id) ys) (found_alike (has_id id) (λ x y a. ap (λ (e : Entry). nat_eq e.id id) a.same) xs ys alike) ∙ h.asked.entries id;
       calls = λ c n. (let same = there_alike (find (has_origin c n) xs) (find (has_origin c n) ys)
           (found_alike (has_origin c n) (λ x y a. ap (λ (e : Entry). is_call c n e.origin) a.same) xs ys alike) in
           let old = h.asked.calls c n in (λ there. old.0 (sym same ∙ there), λ took. same ∙ old.1 took));
-      now = all_alike (IsAsNow j) (IsAsNow j) (λ x y a n. subst (λ e. IsAsNow j e) (sym a.same) (now_alike x y.made n)) xs ys alike h.asked.now;
+      now = all_alike (IsAsNow j) (IsAsNow j) (λ x y a n. subst (λ e. IsAsNow j e) (sym a.same) (now_alike x y.under y.made n)) xs ys alike h.asked.now;
     };
     answered = record {
       rows = h.answered.rows;
       entries = all_alike (HasAnswered j) (HasAnswered j)
-          (λ x y a n. subst (λ e. HasAnswered j e) (sym a.same) (answered_alike x y.made (ap record_of (sym a.same) ∙ a.seen) n)) xs ys alike h.answered.entries;
+          (λ x y a n. subst (λ e. HasAnswered j e) (sym a.same) (answered_alike x y.under y.made (ap record_of (sym a.same) ∙ a.seen) n)) xs ys alike h.answered.entries;
     };
     replies = record {
       rows = h.replies.rows;
       entries = all_alike (λ e. HasReply j kept e e.origin) (λ e. HasReply j kept e e.origin)
-          (λ x y a n. subst (λ e. HasReply j kept e e.origin) (sym a.same) (replied_alike x y.made x.origin n)) xs ys alike h.replies.entries;
+          (λ x y a n. subst (λ e. HasReply j kept e e.origin) (sym a.same) (replied_alike x y.under y.made x.origin n)) xs ys alike h.replies.entries;
       others = All-weaker (λ (p : Reply). IsSome (find (has_id p.id) xs)) (λ (p : Reply). IsSome (find (has_id p.id) ys)) (λ p. there_too p.id) kept h.replies.others;
       rising = h.replies.rising;
     };
@@ -279,9 +313,6 @@ module _ (j : List Row) (kept : List Reply) where
 
 bare_id : (e : Entry) → (bare e).id ≡ e.id
 bare_id e = ap (λ (x : Entry). x.id) (bare_same e e.made)
-
-bare_leaves : Leaves bare
-bare_leaves = record { id = bare_id; origin = λ e. ap (λ (x : Entry). x.origin) (bare_same e e.made) }
 
 last_behind : {X : Type 0} (o : Option X) (xs : List X) (x : X) → last_or o (xs ++ x ∷ []) ≡ Some x
 last_behind o [] x = refl
@@ -312,18 +343,17 @@ module _ (s : Kept) (f : Fits s) (id : ℕ) (e : Entry) (there : find (has_id id
   front : take (s.horizon + n) s.entries ≡ folded s ++ to_fold id s
   front = take-add s.horizon n s.entries ∙ ap (λ l. folded s ++ l) first
 
-  bares : All (λ (x : Entry). IsSomeAnd x.made (IsBare x)) (folded s)
-  bares = λ k d l. (f.horizon.each k d l).bare
+  bares : All IsBareEntry (folded s)
+  bares = λ k d l. ((f.horizon.each k d l).bare, (f.programs.past k d l).ran)
 
   bare_front : map bare (folded s) ≡ folded s
   bare_front = all_bare (folded s) bares
     where
-      all_bare : (es : List Entry) → All (λ (x : Entry). IsSomeAnd x.made (IsBare x)) es → map bare es ≡ es
+      all_bare : (es : List Entry) → All IsBareEntry es → map bare es ≡ es
       all_bare [] h = refl
       all_bare (x ∷ xs) h =
-          let P : Entry → Type 0 = λ y. IsSomeAnd y.made (IsBare y) in
-          let head = bare_again x (All-head P x xs h) in
-          let rest = all_bare xs (All-tail P x xs h) in
+          let head = bare_again x (All-head IsBareEntry x xs h) in
+          let rest = all_bare xs (All-tail IsBareEntry x xs h) in
           (λ i. head i ∷ rest i)
 
   -- and as they are
@@ -344,14 +374,8 @@ module _ (s : Kept) (f : Fits s) (id : ℕ) (e : Entry) (there : find (has_id id
       subst (λ l. AreAlike l t.entries) (take-append-drop k s.entries)
       (alike_append (take k s.entries) (map bare (take k s.entries)) (drop k s.entries) (drop k s.entries) whole (alike_selves (drop k s.entries)))
 
-  apart_then : IsDistinct t.entries
-  apart_then =
-      let k = s.horizon + n in
-      let D : List Entry → Type 0 = λ l. IsDistinct l in
-      distinct-map bare bare_leaves (take k s.entries) (drop k s.entries) (subst D (sym (take-append-drop k s.entries)) f.asked.distinct)
-
   pub fold_logged : (j : List Row) → IsLogged j s.entries s.replies → IsLogged j t.entries t.replies
-  fold_logged j l = logged_alike j s.replies s.entries t.entries entries_alike apart_then l
+  fold_logged j l = logged_alike j s.replies s.entries t.entries entries_alike l
 
   pub fold_places : (registers : List Register) → FitsPlaces registers (map calls_of_entry s.entries ++ map calls_of_flight s.flights)
       → FitsPlaces registers (map calls_of_entry t.entries ++ map calls_of_flight t.flights)

@@ -87,8 +87,8 @@ run_few : (s : Kept) (f : Flight) (ran : Ran) → flight_run s f ≡ ran → Has
 run_few s f (Wants slot calls call) e = tt
 run_few s f (Done t) e =
     let given = map (answers s) f.numbers in
-    let took = takes_done s.setting f.request f.inputs given (rows_after (base s) (unfolded s)) t e in
-    let made = counts_done s.setting f.request f.inputs given (rows_after (base s) (unfolded s)) t e in
+    let took = takes_done (with_program f.program.program s.setting) f.request f.inputs given (rows_after (base s) (unfolded s)) t e in
+    let made = counts_done (with_program f.program.program s.setting) f.request f.inputs given (rows_after (base s) (unfolded s)) t e in
     let many : length given ≡ length f.numbers = length-map f.numbers (answers s) in
     let sum = ap length took.1 ∙ length-append t.answers took.0 in
     omega (arith, made, many, sum)

@@ -1,14 +1,14 @@
 -- What entries behind the folded ones become where the log changes behind the horizon.
-use Rattle.std.proofs.Common.{◌≡◌, ℕ, zero, suc, ◌+◌, ◌≤◌, Bool, false, List, [], ◌∷◌, ◌++◌, map, length, take, drop, Some, None, find, insert, nat_eq, refl, sym, ap, ◌∙◌, subst, arith, append_assoc, take-append-drop, max}
+use Rattle.std.proofs.Common.{◌≡◌, ℕ, zero, suc, ◌+◌, ◌≤◌, Bool, false, List, [], ◌∷◌, ◌++◌, All, map, length, take, drop, Some, None, find, insert, nat_eq, refl, sym, ap, ◌∙◌, subst, arith, append_assoc, take-append-drop, max}
 use Rattle.std.specs.List.{position_or_len}
-use Rattle.std.proofs.lemmas.List.Elements.{All-push}
+use Rattle.std.proofs.lemmas.List.Elements.{All-append, All-cons, All-drop, All-push, All-take}
 use Rattle.request_log.specs.Entries.{has_id, IsDistinct, with_entry, changed}
 use Rattle.request_log.specs.declared.entry.Entry.{Entry}
 use Rattle.local_repair.specs.Current.{AllRuns}
 use Rattle.service_events.specs.State.{Kept, folded, unfolded}
 use Rattle.service_events.proofs.EntryPlaces.{set_later}
 use Rattle.service_events.proofs.LogLemmas.{front_id}
-use Rattle.service_events.proofs.RunLemmas.{HasRun, runs_insert}
+use Rattle.service_events.proofs.RunLemmas.{HasRun}
 use Rattle.service_events.proofs.SearchLemmas.{none_first, splits}
 use Rattle.std.proofs.lemmas.List.{take-append-le, drop-append-le}
 
@@ -128,14 +128,20 @@ push_stays s x few = take-append-le s.horizon s.entries (x ∷ []) few
 pub push_unfolded : (s : Kept) (x : Entry) → s.horizon ≤ length s.entries → drop s.horizon (s.entries ++ x ∷ []) ≡ unfolded s ++ x ∷ []
 push_unfolded s x few = drop-append-le s.horizon s.entries (x ∷ []) few
 
+-- what holds of each holds of each with one more
+pub all_inserted : (P : Entry → Type 0) (s : Kept) (at : ℕ) (x : Entry) → s.horizon ≤ at → s.horizon ≤ length s.entries → P x → All P (unfolded s)
+    → All P (drop s.horizon (insert s.entries at x))
+all_inserted P s at x low few here all =
+    let k = insert_behind s.horizon at s.entries x low few in
+    let es = unfolded s in
+    subst (All P) (sym k.1) (All-append P (take k.0 es) (x ∷ drop k.0 es) (All-take P k.0 es all) (All-cons P x (drop k.0 es) here (All-drop P k.0 es all)))
+
 -- ---- records are what runs gave
 
 pub runs_put : (s : Kept) (at : ℕ) (x : Entry) → s.horizon ≤ at → s.horizon ≤ length s.entries → HasRun s.setting x → AllRuns s.setting (unfolded s)
     → AllRuns s.setting (drop s.horizon (insert s.entries at x))
 runs_put s at x low few here runs =
-    let R : List Entry → Type 0 = λ l. AllRuns s.setting l in
-    let k = insert_behind s.horizon at s.entries x low few in
-    subst R (sym k.1) (runs_insert s.setting (unfolded s) k.0 x here runs)
+    all_inserted (HasRun s.setting) s at x low few here runs
 
 pub runs_push : (s : Kept) (x : Entry) → s.horizon ≤ length s.entries → HasRun s.setting x → AllRuns s.setting (unfolded s)
     → AllRuns s.setting (drop s.horizon (s.entries ++ x ∷ []))

@@ -11,9 +11,9 @@ use Rattle.journal_rows.specs.Words.{first_asked, asked_step, asked, count_step,
 use Rattle.journal_rows.specs.declared.callee.AskedRow.{AskedRow}
 use Rattle.journal_rows.specs.declared.callee.TookRow.{TookRow}
 use Rattle.journal_rows.specs.declared.orders.About.{About}
-use Rattle.journal_rows.specs.declared.orders.About.TheVariants.{Request as OfRequest, Post as OfPost}
+use Rattle.journal_rows.specs.declared.orders.About.TheVariants.{Request as OfRequest, Post as OfPost, Program as OfProgram, Rules as OfRules}
 use Rattle.journal_rows.specs.declared.orders.Command.{Command}
-use Rattle.journal_rows.specs.declared.orders.Command.TheVariants.{Cancel, Restore, Replace, Create, Retry, Fold}
+use Rattle.journal_rows.specs.declared.orders.Command.TheVariants.{Cancel, Restore, Replace, Create, Retry, Fold, Deploy, Correct, Rules}
 use Rattle.journal_rows.specs.declared.orders.OrderedRow.{OrderedRow}
 use Rattle.journal_rows.specs.declared.row.Row.{Row}
 use Rattle.journal_rows.specs.declared.row.Row.TheVariants.{Asked, Took, Answered, Ordered}
@@ -97,6 +97,9 @@ order_struck b (Replace id m p q) o h e = refl
 order_struck b (Create x y q) o h e = refl
 order_struck b (Retry name) o h e = refl
 order_struck b (Fold id) o h e = refl
+order_struck b (Deploy p) o h e = refl
+order_struck b (Correct k p) o h e = refl
+order_struck b (Rules g) o h e = refl
 
 order_request : (q : Request) (row : OrderedRow) (command : Command) (o : Option AskedRow) → IsOrderOn command o → o ≡ None → replaced_by q row command ≡ q
 order_request q row (Cancel id) o h e = refl
@@ -105,10 +108,15 @@ order_request q row (Replace id m p b) o h e = absurd (and_none o (λ a. a.origi
 order_request q row (Create x y r) o h e = refl
 order_request q row (Retry name) o h e = refl
 order_request q row (Fold id) o h e = refl
+order_request q row (Deploy p) o h e = refl
+order_request q row (Correct k p) o h e = refl
+order_request q row (Rules g) o h e = refl
 
 struck_about : (id : ℕ) (b : Bool) (command : Command) (about : About) (before : List Row) → IsOrderAbout about command before → asked id before ≡ None
     → cond (is_about id about) (struck_by b command) b ≡ b
 struck_about id b command (OfPost name) before h e = refl
+struck_about id b command (OfProgram m) before h e = refl
+struck_about id b command OfRules before h e = refl
 struck_about id b command (OfRequest n) before h e = elim (cases_Bool (nat_eq n id)) [
   | inl is ↦ rw is (order_struck b command (asked id before) (subst (λ k. IsOrderOn command (asked k before)) (eqb-true n id is) h) e)
   | inr other ↦ rw other refl
@@ -117,6 +125,8 @@ struck_about id b command (OfRequest n) before h e = elim (cases_Bool (nat_eq n 
 request_about : (id : ℕ) (q : Request) (row : OrderedRow) (command : Command) (about : About) (before : List Row) → IsOrderAbout about command before
     → asked id before ≡ None → cond (is_about id about) (replaced_by q row command) q ≡ q
 request_about id q row command (OfPost name) before h e = refl
+request_about id q row command (OfProgram m) before h e = refl
+request_about id q row command OfRules before h e = refl
 request_about id q row command (OfRequest n) before h e = elim (cases_Bool (nat_eq n id)) [
   | inl is ↦ rw is (order_request q row command (asked id before) (subst (λ k. IsOrderOn command (asked k before)) (eqb-true n id is) h) e)
   | inr other ↦ rw other refl

@@ -14,9 +14,9 @@ use Rattle.journal_rows.specs.Words.{asked, asked_step, first_asked, is_about, i
 use Rattle.journal_rows.specs.declared.callee.AskedRow.{AskedRow}
 use Rattle.journal_rows.specs.declared.caller.SentRow.{SentRow}
 use Rattle.journal_rows.specs.declared.orders.About.{About}
-use Rattle.journal_rows.specs.declared.orders.About.TheVariants.{Request as AboutRequest, Post as AboutPost}
+use Rattle.journal_rows.specs.declared.orders.About.TheVariants.{Request as AboutRequest, Post as AboutPost, Program as AboutProgram, Rules as AboutRules}
 use Rattle.journal_rows.specs.declared.orders.Command.{Command}
-use Rattle.journal_rows.specs.declared.orders.Command.TheVariants.{Cancel, Restore, Replace, Create, Retry, Fold}
+use Rattle.journal_rows.specs.declared.orders.Command.TheVariants.{Cancel, Restore, Replace, Create, Retry, Fold, Deploy, Correct, Rules}
 use Rattle.journal_rows.specs.declared.orders.OrderedRow.{OrderedRow}
 use Rattle.journal_rows.specs.declared.row.Row.{Row}
 use Rattle.journal_rows.specs.declared.row.Row.TheVariants.{Asked, Took, Ordered}
@@ -107,6 +107,8 @@ module _ (caller : List ℕ) (number id : ℕ) (first : Request) where
   not_replaced : (before : List Row) (o : OrderedRow) (now : Request) (about : About) (command : Command) → (IsOutside id before → ⊥) → is_about id about ≡ true
       → IsOrderAbout about command before → now ≡ replaced_by now o command
   not_replaced before o now (AboutPost name) command apart is on = cc
+  not_replaced before o now (AboutProgram m) command apart is on = cc
+  not_replaced before o now AboutRules command apart is on = cc
   not_replaced before o now (AboutRequest k) (Replace x method path body) apart is on =
       absurd (apart (subst (λ n. IsOutside n before) (eqb-true k id is) on))
   not_replaced before o now (AboutRequest k) (Cancel x) apart is on = refl
@@ -114,6 +116,9 @@ module _ (caller : List ℕ) (number id : ℕ) (first : Request) where
   not_replaced before o now (AboutRequest k) (Create x y q) apart is on = refl
   not_replaced before o now (AboutRequest k) (Retry name) apart is on = refl
   not_replaced before o now (AboutRequest k) (Fold x) apart is on = refl
+  not_replaced before o now (AboutRequest k) (Deploy p) apart is on = refl
+  not_replaced before o now (AboutRequest k) (Correct n p) apart is on = refl
+  not_replaced before o now (AboutRequest k) (Rules g) apart is on = refl
 
   took_agrees : (b : Bool) (d known : Option Request) (now : Request) → or_before first known ≡ now
       → or_before first (if b then or_else_before known d else known) ≡ (if b then or_before now d else now)
@@ -203,3 +208,6 @@ subject_as_told s f (Retry (OfCall number)) = sent_as_told s f.sent number
 subject_as_told s f (Retry (OfReply id)) = found_as_told s (logged s f) id
 subject_as_told s f (Retry (OfFetch number)) = refl
 subject_as_told s f (Fold id) = refl
+subject_as_told s f (Deploy p) = refl
+subject_as_told s f (Correct k p) = refl
+subject_as_told s f (Rules g) = refl

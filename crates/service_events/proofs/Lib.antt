@@ -55,6 +55,11 @@ pub mod BehindLaws
 pub mod LiveBehind
 pub mod RepairBehind
 pub mod FoldLaw
+pub mod CorrectLaw
+pub mod ProgramLemmas
+pub mod ProgramOrders
+pub mod LiveUnder
+pub mod RepairUnder
 pub mod EventLaws
 pub mod PurchaseExample
 pub mod DoorLaws

@@ -154,7 +154,7 @@ module _ (start : Kept) where
       let k = length t.calls in
       let grown = length-append s.entries (x ∷ []) in
       let few = c.behind.within in
-      let asking : Row = Asked (record { id = next_id s; origin = f.origin; request = f.request; inputs = f.inputs }) in
+      let asking : Row = Asked (record { id = next_id s; origin = f.origin; request = f.request; inputs = f.inputs; program = f.program.number }) in
       behind_then start s (committed s f t).service (before_answer s f t ++ live_answer s f t ∷ []) c.behind refl
       (each_append FoldsNone (before_answer s f t) (live_answer s f t ∷ [])
       (each_append FoldsNone (surplus_rows s f t) (asking ∷ took_rows f.origin f.request) (deleted_none s.registers (drop k f.numbers) (drop k f.calls)) (tt, took_none f.origin f.request))

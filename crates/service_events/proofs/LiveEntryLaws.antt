@@ -56,7 +56,7 @@ deletion_callers s (Some n) (Some c) = (tt, tt)
 deletion_callers s (Some n) None = tt
 deletion_callers s None c = tt
 
-change_callers : (s : Kept) (f : Flight) (slot : ℕ) (call : CallMade) → Each IsCallerRow (change_rows s f slot call)
+pub change_callers : (s : Kept) (f : Flight) (slot : ℕ) (call : CallMade) → Each IsCallerRow (change_rows s f slot call)
 change_callers s f slot call =
     each_append IsCallerRow (deletion s (slice_get f.numbers slot) (slice_get f.calls slot)) (named (next_number s.registers) call ∷ [])
     (deletion_callers s (slice_get f.numbers slot) (slice_get f.calls slot)) (tt, tt)
@@ -151,7 +151,7 @@ module _ (s : Kept) (h : IsLogged s.journal s.entries s.replies) where
 
 -- ---- what comes back of a call
 
-heard_callers : (s : Kept) (a : AnswerMessage) (b : Bool) → Each IsCallerRow (cond b (seen_live a ∷ []) [])
+pub heard_callers : (s : Kept) (a : AnswerMessage) (b : Bool) → Each IsCallerRow (cond b (seen_live a ∷ []) [])
 heard_callers s a true = (tt, tt)
 heard_callers s a false = tt
 

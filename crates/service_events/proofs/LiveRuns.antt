@@ -10,6 +10,7 @@ use Rattle.lang_core.specs.declared.request.Request.{Request}
 use Rattle.lang_core.specs.declared.request.Response.{Response}
 use Rattle.lang_core.specs.declared.trace.CallMade.{CallMade}
 use Rattle.lang_core.specs.declared.trace.Trace.{Trace}
+use Rattle.lang_programs.specs.Settings.{with_program}
 use Rattle.handler_run.specs.Handlers.{run_of}
 use Rattle.handler_run.specs.declared.state.Ran.{Ran}
 use Rattle.handler_run.specs.declared.state.Ran.TheVariants.{Done, Wants}
@@ -51,9 +52,9 @@ use Rattle.service_events.proofs.HorizonLemmas.{runs_push}
 abbrev pub RanBehind : Kept → Type 0
 RanBehind s = (s.horizon ≤ length s.entries) × AllRuns s.setting (unfolded s)
 
--- a flight's runs, by the answers
+-- a flight's runs under its program, by the answers
 abbrev pub runs_of : Kept → Flight → List Response → Ran
-runs_of s f xs = run_of s.setting f.request f.inputs xs (rows_after (base s) (unfolded s))
+runs_of s f xs = run_of (with_program f.program.program s.setting) f.request f.inputs xs (rows_after (base s) (unfolded s))
 
 -- the answers that its calls consume
 abbrev pub answers_given : Kept → Flight → List Response
@@ -61,7 +62,7 @@ answers_given s f = map (answers s) f.numbers
 
 committed_runs : (s : Kept) (f : Flight) (t : Trace) → flight_run s f ≡ Done t → RanBehind s → LeavesRuns (committed s f t)
 committed_runs s f t done h =
-    runs_push s (committed_entry s f t) h.0 (record_is_run s.setting f.request f.inputs (answers_given s f) (rows_after (base s) (unfolded s)) t (live_version f.origin) done) h.1
+    runs_push s (committed_entry s f t) h.0 (record_is_run (with_program f.program.program s.setting) f.request f.inputs (answers_given s f) (rows_after (base s) (unfolded s)) t (live_version f.origin) done) h.1
 
 -- ---- what a move says of the run
 
@@ -142,7 +143,7 @@ pub record Completes (s : Kept) (f : Flight) (k : ℕ) : Type 0 where
   pub runs : RanBehind s
 
 pub grows : (s : Kept) (f : Flight) → IsGrowing (runs_of s f)
-grows s f = growing s.setting f.request f.inputs (rows_after (base s) (unfolded s))
+grows s f = growing (with_program f.program.program s.setting) f.request f.inputs (rows_after (base s) (unfolded s))
 
 pub name_completes : (s : Kept) (f : Flight) (k : ℕ) (slot : ℕ) (made : List CallMade) (call : CallMade) → flight_run s f ≡ Wants slot made call
     → first_other f.calls (calls_in (flight_run s f)) ≡ None → Completes s f k → Completes (named_unsent s call) (with_slot (next_number s.registers) call f) (k + 1)

@@ -20,7 +20,7 @@ use Rattle.journal_rows.specs.declared.callee.TookRow.{TookRow}
 use Rattle.journal_rows.specs.declared.callee.TookHow.TheVariants.{Message}
 use Rattle.journal_rows.specs.declared.caller.NotedRow.{NotedRow}
 use Rattle.journal_rows.specs.declared.row.Row.{Row}
-use Rattle.journal_rows.specs.declared.row.Row.TheVariants.{Asked, Ordered}
+use Rattle.journal_rows.specs.declared.row.Row.TheVariants.{Ordered}
 use Rattle.call_registers.specs.Registers.{register, with_hold, is_news, is_newer}
 use Rattle.call_registers.specs.declared.register.Hold.{Hold}
 use Rattle.call_registers.specs.declared.register.Register.{Register}
@@ -28,7 +28,7 @@ use Rattle.call_registers.specs.Replies.{reply, at_entry, with_taken, made_due}
 use Rattle.flights.specs.declared.flight.Flight.{Flight}
 use Rattle.service_events.specs.State.{Kept, after, me, next_id, is_in_flight, same_call_origin}
 use Rattle.service_events.specs.Calls.{noted}
-use Rattle.service_events.specs.Messages.{take_rule, take_new, origin_of, is_known, is_too_much, acked_row, took_row, at_reply_of, acked_again, created_entry, created_reply, created_place, at_version, taken_by, take_admitted, confirmed_row, noted_row, heard, hear_rule, hear_allowed, hear_new, token_taken_where, fetched_row, fetched_by, fetched, had_call, is_ack_of, replies_to, had, is_now, hold_of, held_back, held_where, saw_ack_row, was_confirmed_row, confirmed_reply, posted}
+use Rattle.service_events.specs.Messages.{take_rule, take_new, origin_of, is_known, is_too_much, acked_row, took_row, at_reply_of, acked_again, created_entry, created_reply, created_place, created_row, at_version, taken_by, take_admitted, confirmed_row, noted_row, heard, hear_rule, hear_allowed, hear_new, token_taken_where, fetched_row, fetched_by, fetched, had_call, is_ack_of, replies_to, had, is_now, hold_of, held_back, held_where, saw_ack_row, was_confirmed_row, confirmed_reply, posted}
 use Rattle.service_events.specs.declared.answers.PostReply.{PostReply}
 use Rattle.service_events.specs.declared.answers.PostReply.TheVariants.{Acked as WasAcked, Confirmed as WasConfirmedBack, Given, Refused, Lost}
 use Rattle.service_events.specs.declared.refusals.AnswerRefused.TheVariants.{Unknown}
@@ -87,7 +87,7 @@ taken_goes s set i None (Some q) distinct apart found =
     let t = record s { entries = es; replies = ps } in
     goes_then s t (taken_by s set i None (Some q))
     (goes_entries s es ps (places_insert s.registers s.entries (created_place s set) (created_entry s set q i) (map calls_of_flight s.flights) refl))
-    (goes_took t set (took_row s set ∷ (Asked (record { id = next_id s; origin = origin_of set; request = q; inputs = i }) ∷ (acked_row set ∷ []))) apart
+    (goes_took t set (took_row s set ∷ (created_row s set q i ∷ (acked_row set ∷ []))) apart
     (tt, (tt, (tt, tt))) (tt, (tt, (tt, tt))) (tt, (tt, (tt, tt))) (λ g h. (took_leaves s set g h, (tt, (tt, tt)))))
 taken_goes s set i None None distinct apart found =
     goes_took s set (took_row s set ∷ (acked_row set ∷ [])) apart (tt, (tt, tt)) (tt, (tt, tt)) (tt, (tt, tt)) (λ g h. (took_leaves s set g h, (tt, tt)))

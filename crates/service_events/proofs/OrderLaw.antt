@@ -11,6 +11,7 @@ use Rattle.lang_core.specs.declared.ids.Origin.TheVariants.{Outside, Call}
 use Rattle.lang_core.specs.declared.inputs.Inputs.{Inputs}
 use Rattle.lang_core.specs.declared.request.Request.{Request}
 use Rattle.lang_tree.specs.declared.method.Method.{Method}
+use Rattle.lang_programs.specs.Numbered.{Numbered}
 use Rattle.request_log.specs.Entries.{has_id, changed, mark, replace, with_call}
 use Rattle.request_log.specs.declared.entry.Entry.{Entry}
 use Rattle.repair_messages.specs.declared.posts.PostName.{PostName}
@@ -19,9 +20,9 @@ use Rattle.create_placement.specs.Placement.{created}
 use Rattle.journal_rows.specs.Words.{first_asked, asked_step, asked, count_step, taken_step, last_taken_of, version_in, wants, request_step, request_now, struck_by, struck_step, is_struck, replaced_by, answered_step, mark_step, or_before, is_about, settles}
 use Rattle.journal_rows.specs.declared.callee.TookRow.{TookRow}
 use Rattle.journal_rows.specs.declared.callee.AskedRow.{AskedRow}
-use Rattle.journal_rows.specs.declared.orders.About.TheVariants.{Request as AboutRequest, Post as AboutPost}
+use Rattle.journal_rows.specs.declared.orders.About.TheVariants.{Request as AboutRequest, Post as AboutPost, Program as AboutProgram, Rules as AboutRules}
 use Rattle.journal_rows.specs.declared.orders.Command.{Command}
-use Rattle.journal_rows.specs.declared.orders.Command.TheVariants.{Cancel, Restore, Replace, Create, Retry, Fold}
+use Rattle.journal_rows.specs.declared.orders.Command.TheVariants.{Cancel, Restore, Replace, Create, Retry, Fold, Deploy, Correct, Rules}
 use Rattle.journal_rows.specs.declared.orders.OrderedRow.{OrderedRow}
 use Rattle.journal_rows.specs.declared.row.Row.{Row}
 use Rattle.journal_rows.specs.declared.row.Row.TheVariants.{Asked, Ordered as OrderedAs}
@@ -30,7 +31,7 @@ use Rattle.call_registers.specs.Replies.{reply, released as released_reply}
 use Rattle.call_registers.specs.declared.reply.Reply.{Reply}
 use Rattle.service_events.specs.Calls.{noted}
 use Rattle.service_events.specs.Fits.{IsOrderAbout, TellsRequests, IsAsNow, HasAnswered, HasReply, IsReply, made_as, asked_as, answer_given, takes_request, request_found, Fits}
-use Rattle.service_events.specs.Orders.{entry_of, unless_outside, unless_replaced, misnamed, is_too_much, refused, order_decision, order_rule, unless_allowed, about, request_of, order_rows, released_post, carried_out, order_by, order_where, first_unquiet, place_made, to_fold, unless_past, unless_present, unless_quiet}
+use Rattle.service_events.specs.Orders.{entry_of, unless_outside, unless_replaced, misnamed, is_too_much, refused, order_decision, order_rule, unless_allowed, about, request_of, order_rows, released_post, brought, carried_out, corrected_on, made_under, order_by, order_where, first_unquiet, place_made, to_fold, unless_past, unless_present, unless_quiet}
 use Rattle.service_events.specs.State.{Kept, after, next_id, or_else, base, folded, unfolded, where_needed}
 use Rattle.service_events.specs.declared.answers.Ordered.{Ordered}
 use Rattle.service_events.specs.declared.refusals.OrderRefused.{OrderRefused}
@@ -43,7 +44,8 @@ use Rattle.service_events.proofs.LogLemmas.{IsWith, with_insert, with_changed, w
 use Rattle.service_events.proofs.PartLemmas.{IsLogged, logged_none, logged_one, request_same}
 use Rattle.service_events.proofs.EntryRowLemmas.{IsAboutEntry}
 use Rattle.service_events.proofs.SearchLemmas.{neither, found_all, length_insert, if_some, or_none}
-use Rattle.service_events.proofs.FoldLaw.{fold_logged}
+use Rattle.service_events.proofs.CorrectLaw.{corrected_alike}
+use Rattle.service_events.proofs.FoldLaw.{fold_logged, logged_alike}
 use Rattle.service_events.proofs.HorizonLemmas.{found_past}
 
 -- ---- what an order finds that isn't refused
@@ -174,17 +176,18 @@ module _ (j : List Row) (log : List Entry) (kept : List Reply) (h : IsLogged j l
       })
       h
 
--- ---- an order about a post
+-- ---- an order about no entry
 
 module _ (s : Kept) (h : IsLogged s.journal s.entries s.replies) where
-  post_ordered : (o : OrderedRow) (name : PostName) → o.about ≡ AboutPost name → TellsRequests o s.journal → IsLogged (s.journal ++ OrderedAs o ∷ []) s.entries s.replies
-  post_ordered o name is tells = logged_none s.journal (OrderedAs o ∷ []) s.entries s.replies
+  aside_ordered : (o : OrderedRow) → IsOrderAbout o.about o.command s.journal → IsAboutEntry (length s.entries + 1) o.about → TellsRequests o s.journal
+      → IsLogged (s.journal ++ OrderedAs o ∷ []) s.entries s.replies
+  aside_ordered o may aside tells = logged_none s.journal (OrderedAs o ∷ []) s.entries s.replies
       (record {
-        may = record { takes = (tt, tt); asks = ((subst (λ a. IsOrderAbout a o.command s.journal) (sym is) tt, tells), tt); answers = (tt, tt); confirms = (tt, tt) };
+        may = record { takes = (tt, tt); asks = ((may, tells), tt); answers = (tt, tt); confirms = (tt, tt) };
         count = fold_push count_step 0 s.journal (OrderedAs o);
         made = λ id. fold_push (asked_step id) None s.journal (OrderedAs o);
         calls = λ c n. list_any-append (takes_request c n) s.journal (OrderedAs o ∷ []) ∙ or_none (list_any (takes_request c n) s.journal) (list_any (takes_request c n) (OrderedAs o ∷ [])) refl;
-        same = all_same (length s.entries + 1) Outside s.journal (OrderedAs o ∷ []) s.entries (subst (IsAboutEntry (length s.entries + 1)) (sym is) tt, tt) (unfound s.journal s.entries s.replies h) refl;
+        same = all_same (length s.entries + 1) Outside s.journal (OrderedAs o ∷ []) s.entries (aside, tt) (unfound s.journal s.entries s.replies h) refl;
       })
       h
 
@@ -195,13 +198,13 @@ module _ (s : Kept) (h : IsLogged s.journal s.entries s.replies) where
 
   -- ---- an order that makes an entry
 
-  module _ (o : OrderedRow) (q : Request) (i : Inputs) (place : ℕ) (is : o.about ≡ AboutRequest (next_id s)) (may : IsOrderAbout o.about o.command s.journal) (tells : TellsRequests o s.journal) (unreplaced : (before : Request) → replaced_by before o o.command ≡ before)
+  module _ (o : OrderedRow) (q : Request) (i : Inputs) (p : Numbered) (place : ℕ) (is : o.about ≡ AboutRequest (next_id s)) (may : IsOrderAbout o.about o.command s.journal) (tells : TellsRequests o s.journal) (unreplaced : (before : Request) → replaced_by before o o.command ≡ before)
       (unstruck_by : struck_by false o.command ≡ false) where
     abbrev asks : AskedRow
-    asks = record { id = next_id s; origin = Outside; request = q; inputs = i }
+    asks = record { id = next_id s; origin = Outside; request = q; inputs = i; program = p.number }
 
     abbrev rows : List Row
-    rows = OrderedAs o ∷ (Asked (record { id = next_id s; origin = Outside; request = q; inputs = i }) ∷ [])
+    rows = OrderedAs o ∷ (Asked (record { id = next_id s; origin = Outside; request = q; inputs = i; program = p.number }) ∷ [])
 
     own : nat_eq (next_id s) (next_id s) ≡ true
     own = eq-eqb (next_id s) (next_id s) refl
@@ -224,9 +227,9 @@ module _ (s : Kept) (h : IsLogged s.journal s.entries s.replies) where
         ∙ cond-true (is_about (next_id s) o.about) (struck_by (is_struck (next_id s) s.journal) o.command) (is_struck (next_id s) s.journal) about_new
         ∙ ap (λ b. struck_by b o.command) (unstruck s.journal s.entries s.replies h) ∙ unstruck_by
 
-    pub ordered_new : IsLogged (s.journal ++ rows) (insert s.entries place (created (next_id s) q i)) s.replies
+    pub ordered_new : IsLogged (s.journal ++ rows) (insert s.entries place (created (next_id s) q i p)) s.replies
     ordered_new =
-        let x = created (next_id s) q i in
+        let x = created (next_id s) q i p in
         let log' = insert s.entries place x in
         let whole = with_insert s.entries place x (is_new s.journal s.entries s.replies h x refl tt) h.asked.distinct in
         logged_one s.journal rows s.entries log' s.replies s.replies x
@@ -326,11 +329,18 @@ module _ (s : Kept) (h : IsLogged s.journal s.entries s.replies) where
       (with_changed s.entries id (replace m p b) at.0 at.1 refl refl h.asked.distinct) (length-map s.entries (λ e. cond (has_id id e) (replace m p b e) e)))
   ordered_logged_by f (Create before after q) token who i ok =
       ordered_new
-      (record { token = token; command = Create before after q; who = who; rule = order_rule s (Create before after q) who; original = None; repaired = Some q; about = AboutRequest (next_id s) }) q i (place_made s before after) refl tt
+      (record { token = token; command = Create before after q; who = who; rule = order_rule s (Create before after q) who; original = None; repaired = Some q; about = AboutRequest (next_id s) }) q i (made_under s before after) (place_made s before after) refl tt
       (sym (ap (option_map (λ (a : AskedRow). request_now (next_id s) a.origin a.request s.journal)) (unmade s.journal s.entries s.replies h)), refl) (λ r. refl) refl
   ordered_logged_by f (Retry name) token who i ok =
       retried (s.journal ++ order_rows s (Retry name) token who i) who name
-      (post_ordered (record { token = token; command = Retry name; who = who; rule = order_rule s (Retry name) who; original = None; repaired = None; about = AboutPost name }) name refl (refl, refl))
+      (aside_ordered (record { token = token; command = Retry name; who = who; rule = order_rule s (Retry name) who; original = None; repaired = None; about = AboutPost name }) tt tt (refl, refl))
+  ordered_logged_by f (Deploy p) token who i ok =
+      aside_ordered (record { token = token; command = Deploy p; who = who; rule = order_rule s (Deploy p) who; original = None; repaired = None; about = AboutProgram (brought s p).number }) tt tt (refl, refl)
+  ordered_logged_by f (Correct k p) token who i ok =
+      let o : OrderedRow = record { token = token; command = Correct k p; who = who; rule = order_rule s (Correct k p) who; original = None; repaired = None; about = AboutProgram (brought s p).number } in
+      logged_alike (s.journal ++ OrderedAs o ∷ []) s.replies s.entries (corrected_on k (brought s p) s).entries (corrected_alike s k (brought s p)) (aside_ordered o tt tt (refl, refl))
+  ordered_logged_by f (Rules g) token who i ok =
+      aside_ordered (record { token = token; command = Rules g; who = who; rule = order_rule s (Rules g) who; original = None; repaired = None; about = AboutRules }) tt tt (refl, refl)
   ordered_logged_by f (Fold id) token who i ok =
       let o : OrderedRow = record { token = token; command = Fold id; who = who; rule = order_rule s (Fold id) who; original = None; repaired = None; about = AboutRequest id } in
       let at = there_is id (entry_of id s) ok.0 in
@@ -358,6 +368,9 @@ module _ (s : Kept) (h : IsLogged s.journal s.entries s.replies) where
           journal_stays (Retry (OfReply n)) who i = refl
           journal_stays (Retry (OfFetch n)) who i = refl
           journal_stays (Fold id) who i = refl
+          journal_stays (Deploy p) who i = refl
+          journal_stays (Correct k p) who i = refl
+          journal_stays (Rules g) who i = refl
 
   pub order_where_logged : Fits s → (command : Command) (token who : List ℕ) (i : Inputs) (o : Option OrderedRow) → LeavesLogged (order_where s command token who i o)
   order_where_logged f command token who i (Some o) = h

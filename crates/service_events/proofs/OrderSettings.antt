@@ -4,7 +4,7 @@ use Rattle.lang_core.specs.declared.inputs.Inputs.{Inputs}
 use Rattle.repair_messages.specs.declared.posts.PostName.{PostName}
 use Rattle.repair_messages.specs.declared.posts.PostName.TheVariants.{Call, Reply, Fetch}
 use Rattle.journal_rows.specs.declared.orders.Command.{Command}
-use Rattle.journal_rows.specs.declared.orders.Command.TheVariants.{Cancel, Restore, Replace, Create, Retry, Fold}
+use Rattle.journal_rows.specs.declared.orders.Command.TheVariants.{Cancel, Restore, Replace, Create, Retry, Fold, Deploy, Correct, Rules}
 use Rattle.journal_rows.specs.declared.orders.OrderedRow.{OrderedRow}
 use Rattle.journal_rows.specs.Words.{ordered}
 use Rattle.service_events.specs.Orders.{carried_out, order_by, order_event, order_where, refused, released_post}
@@ -23,6 +23,9 @@ carried_setting s (Replace id method path body) who i = refl
 carried_setting s (Create before after q) who i = refl
 carried_setting s (Retry name) who i = released_setting who name s
 carried_setting s (Fold id) who i = refl
+carried_setting s (Deploy p) who i = refl
+carried_setting s (Correct k p) who i = refl
+carried_setting s (Rules g) who i = refl
 
 module _ (s : Kept) (command : Command) (token who : List ℕ) (i : Inputs) where
   setting_by : (why : Option OrderRefused) → (order_by s command token who i why).service.setting ≡ s.setting

@@ -22,7 +22,7 @@ use Rattle.repair_messages.specs.declared.posts.PostName.TheVariants.{Call as Of
 use Rattle.journal_rows.specs.Words.{last_noted, last_seen, noted_at, seen_acked}
 use Rattle.journal_rows.specs.declared.caller.NotedRow.{NotedRow}
 use Rattle.journal_rows.specs.declared.orders.Command.{Command}
-use Rattle.journal_rows.specs.declared.orders.Command.TheVariants.{Cancel, Restore, Replace, Create, Retry, Fold}
+use Rattle.journal_rows.specs.declared.orders.Command.TheVariants.{Cancel, Restore, Replace, Create, Retry, Fold, Deploy, Correct, Rules}
 use Rattle.journal_rows.specs.declared.row.Row.{Row}
 use Rattle.journal_rows.specs.declared.row.Row.TheVariants.{Answered, Asked}
 use Rattle.call_registers.specs.Registers.{held_version, is_news, is_newer, next_number, register}
@@ -31,8 +31,8 @@ use Rattle.call_registers.specs.declared.register.Hold.{Hold}
 use Rattle.call_registers.specs.declared.register.Register.{Register}
 use Rattle.service_events.specs.Calls.{deleted, named, next_after, noted, replaced, settling_rows, slot_rows, keeps_number, seen_answer}
 use Rattle.service_events.specs.Fits.{Fits, HasSeen, IsDoneWith, call_in, call_to, count}
-use Rattle.service_events.specs.Messages.{acked_again, at_version, confirmed_row, created_entry, created_place, fetched, fetched_row, hear_new, hear_rule, heard, held_back, held_where, hold_of, is_known, is_now, is_past_call, neighbour, noted_row, origin_of, posted, take_admitted, take_new, taken, taken_by, token_taken_by, token_taken_where, acked_row, hear_allowed, saw_ack_row, took_row, was_confirmed_row}
-use Rattle.service_events.specs.Orders.{carried_out, misnamed, order_rows, place_made, released_post, entry_of}
+use Rattle.service_events.specs.Messages.{acked_again, at_version, confirmed_row, created_entry, created_place, created_row, fetched, fetched_row, hear_new, hear_rule, heard, held_back, held_where, hold_of, is_known, is_now, is_past_call, neighbour, noted_row, origin_of, posted, take_admitted, take_new, taken, taken_by, token_taken_by, token_taken_where, acked_row, hear_allowed, saw_ack_row, took_row, was_confirmed_row}
+use Rattle.service_events.specs.Orders.{brought, carried_out, made_under, misnamed, order_rows, place_made, released_post, entry_of}
 use Rattle.service_events.specs.State.{Kept, after, answers, base, folded, next_id, unfolded}
 use Rattle.service_events.specs.Steps.{Stale, answer_rows, new_numbers, new_record, sent_rows, stale_in, step_by, stepped}
 use Rattle.service_events.specs.declared.answers.PostReply.{PostReply}
@@ -41,6 +41,7 @@ use Rattle.service_events.specs.declared.answers.Posted.TheVariants.{Saw, Knew, 
 use Rattle.service_events.specs.declared.refusals.AnswerRefused.{AnswerRefused}
 use Rattle.service_events.proofs.AskedLemmas.{hear_either, take_either}
 use Rattle.service_events.proofs.BehindLaws.{GoesBehind, behind_same, behind_then}
+use Rattle.service_events.proofs.CorrectLaw.{corrected_many, corrected_stays}
 use Rattle.service_events.proofs.BehindLemmas.{FoldsNone, IsPastNumber, LeavesCall, noted_below}
 use Rattle.service_events.proofs.CallRowLemmas.{Each, each_append}
 use Rattle.service_events.proofs.FlightLemmas.{each_found}
@@ -187,7 +188,7 @@ module _ (s : Kept) (f : Fits s) where
       let at = created_place s set in
       let many = length_insert s.entries at x in
       let within = f.horizon.within in
-      behind_then s s (taken_by s set i None (Some q)) (took_row s set ∷ (Asked (record { id = next_id s; origin = origin_of set; request = q; inputs = i }) ∷ (acked_row set ∷ []))) same refl
+      behind_then s s (taken_by s set i None (Some q)) (took_row s set ∷ (created_row s set q i ∷ (acked_row set ∷ []))) same refl
       (tt, (tt, (tt, tt))) (λ n p. (tt, (tt, (tt, tt))))
       (insert_stays s at x (behind_horizon s (place_between (neighbour s set.caller set.before) (neighbour s set.caller set.after) s.entries)) within) refl refl
       (omega (arith, within, many)) refl
@@ -291,7 +292,7 @@ module _ (s : Kept) (f : Fits s) where
   ordered_behind (Replace id m p b) token who i ok =
       at_id_behind id (replace m p b) (order_rows s (Replace id m p b) token who i) (present_too s id (entry_of id s) ok) ((λ last. refl), tt) (λ n. (tt, tt))
   ordered_behind (Create before after q) token who i ok =
-      let x = created (next_id s) q i in
+      let x = created (next_id s) q i (made_under s before after) in
       let at = place_made s before after in
       let many = length_insert s.entries at x in
       let within = f.horizon.within in
@@ -299,4 +300,15 @@ module _ (s : Kept) (f : Fits s) where
       ((λ last. refl), (tt, tt)) (λ n p. (tt, (tt, tt)))
       (insert_stays s at x (behind_horizon s (place_between before after s.entries)) within) refl refl (omega (arith, within, many)) refl
   ordered_behind (Retry name) token who i ok = released_behind token who i name
+  ordered_behind (Deploy p) token who i ok =
+      behind_then s s (noted (order_rows s (Deploy p) token who i) (carried_out s (Deploy p) who i)) (order_rows s (Deploy p) token who i) same refl
+      ((λ last. refl), tt) (λ n past. (tt, tt)) refl refl refl few refl
+  ordered_behind (Correct k p) token who i ok =
+      let many = corrected_many s k (brought s p) in
+      let within = f.horizon.within in
+      behind_then s s (noted (order_rows s (Correct k p) token who i) (carried_out s (Correct k p) who i)) (order_rows s (Correct k p) token who i) same refl
+      ((λ last. refl), tt) (λ n past. (tt, tt)) (corrected_stays s k (brought s p) within) refl refl (omega (arith, within, many)) refl
+  ordered_behind (Rules g) token who i ok =
+      behind_then s s (noted (order_rows s (Rules g) token who i) (carried_out s (Rules g) who i)) (order_rows s (Rules g) token who i) same refl
+      ((λ last. refl), tt) (λ n past. (tt, tt)) refl refl refl few refl
   ordered_behind (Fold id) token who i ok = tt

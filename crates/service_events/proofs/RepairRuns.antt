@@ -4,7 +4,7 @@ use Rattle.std.proofs.lemmas.Bool.{cond_both}
 use Rattle.lang_base.specs.Texts.{same_text}
 use Rattle.lang_core.specs.declared.inputs.Inputs.{Inputs}
 use Rattle.lang_core.specs.declared.request.Request.{Request}
-use Rattle.request_log.specs.Entries.{changed, find_call, has_origin, mark, replace}
+use Rattle.request_log.specs.Entries.{changed, corrected, find_call, has_origin, has_program, mark, replace, with_correction}
 use Rattle.request_log.specs.declared.entry.Entry.{Entry}
 use Rattle.repair_messages.specs.declared.messages.AnswerMessage.{AnswerMessage}
 use Rattle.repair_messages.specs.declared.messages.SetMessage.{SetMessage}
@@ -17,7 +17,7 @@ use Rattle.local_repair.specs.Steps.{remade}
 use Rattle.journal_rows.specs.Words.{noted_at}
 use Rattle.journal_rows.specs.declared.caller.NotedRow.{NotedRow}
 use Rattle.journal_rows.specs.declared.orders.Command.{Command}
-use Rattle.journal_rows.specs.declared.orders.Command.TheVariants.{Cancel, Restore, Replace, Create, Retry, Fold}
+use Rattle.journal_rows.specs.declared.orders.Command.TheVariants.{Cancel, Restore, Replace, Create, Retry, Fold, Deploy, Correct, Rules}
 use Rattle.journal_rows.specs.declared.orders.OrderedRow.{OrderedRow}
 use Rattle.call_registers.specs.Registers.{is_news, is_newer, register}
 use Rattle.call_registers.specs.declared.register.Hold.{Hold}
@@ -25,7 +25,7 @@ use Rattle.call_registers.specs.declared.register.Register.{Register}
 use Rattle.create_placement.specs.Placement.{place_between, created}
 use Rattle.service_events.specs.Calls.{noted}
 use Rattle.service_events.specs.Messages.{taken, take_new, origin_of, is_known, acked_again, created_entry, created_place, at_version, taken_by, take_admitted, heard, hear_new, confirmed_row, token_taken_by, token_taken_where, fetched_row, fetched, is_now, hold_of, held_back, held_where, posted, neighbour}
-use Rattle.service_events.specs.Orders.{refused, carried_out, order_by, order_where, folded_on, place_made, to_fold}
+use Rattle.service_events.specs.Orders.{refused, brought, carried_out, corrected_on, made_under, order_by, order_where, folded_on, place_made, to_fold}
 use Rattle.service_events.specs.State.{Kept, After, after, next_id, answers, base, folded, unfolded}
 use Rattle.service_events.specs.Steps.{new_record, new_numbers, Stale, step_by, stale_in}
 use Rattle.service_events.specs.declared.answers.PostReply.{PostReply}
@@ -36,9 +36,11 @@ use Rattle.service_events.specs.declared.refusals.OrderRefused.{OrderRefused}
 use Rattle.service_events.proofs.AskedLemmas.{take_either, hear_either}
 use Rattle.service_events.proofs.RunLemmas.{HasRun, new_is_run, runs_with, runs_changed}
 use Rattle.service_events.proofs.SearchLemmas.{found_all}
-use Rattle.std.proofs.lemmas.List.Elements.{All-drop}
+use Rattle.std.proofs.lemmas.List.Elements.{All-drop, All-map, All-weaker}
+use Rattle.lang_programs.specs.Numbered.{Numbered}
 use Rattle.request_log.specs.Folded.{bare}
 use Rattle.service_events.specs.Fits.{Fits}
+use Rattle.service_events.proofs.CorrectLaw.{corrected_unfolded}
 use Rattle.service_events.proofs.HorizonLemmas.{behind_horizon, changed_unfolded, found_past, mapped_behind, number_past, runs_put, with_unfolded}
 use Rattle.service_events.proofs.StepLaw.{is_taken}
 
@@ -131,13 +133,23 @@ module _ (s : Kept) (f : Fits s) where
   folded_runs n =
       subst Runs (sym (mapped_behind bare (s.horizon + n) s.entries ∙ sym (drop-drop n s.horizon s.entries))) (All-drop (HasRun s.setting) n (unfolded s) h)
 
+  corrected_runs : (k : ℕ) (p : Numbered) → AllRuns s.setting (unfolded (corrected_on k p s))
+  corrected_runs k p =
+      subst Runs (sym (corrected_unfolded s k p f.horizon.within))
+      (All-map (HasRun s.setting) (corrected k p) (unfolded s)
+      (All-weaker (HasRun s.setting) (λ e. HasRun s.setting (corrected k p e))
+      (λ e here. cond_both (has_program k e) (with_correction p e) e (HasRun s.setting) (λ _. here) (λ _. here)) (unfolded s) h))
+
   carried_runs : (command : Command) (who : List ℕ) (i : Inputs) → AllRuns (carried_out s command who i).setting (unfolded (carried_out s command who i))
   carried_runs (Cancel id) who i = at_id_runs id (mark true) (λ e here. here)
   carried_runs (Restore id) who i = at_id_runs id (mark false) (λ e here. here)
   carried_runs (Replace id m p b) who i = at_id_runs id (replace m p b) (λ e here. here)
   carried_runs (Create before after q) who i =
-      runs_put s (place_made s before after) (created (next_id s) q i) (behind_horizon s (place_between before after s.entries)) f.horizon.within tt h
+      runs_put s (place_made s before after) (created (next_id s) q i (made_under s before after)) (behind_horizon s (place_between before after s.entries)) f.horizon.within tt h
   carried_runs (Fold id) who i = folded_runs (length (to_fold id s))
+  carried_runs (Deploy p) who i = h
+  carried_runs (Correct k p) who i = corrected_runs k (brought s p)
+  carried_runs (Rules g) who i = h
   carried_runs (Retry (OfCall n)) who i = h
   carried_runs (Retry (OfReply n)) who i = h
   carried_runs (Retry (OfFetch n)) who i = h

@@ -1,7 +1,7 @@
 -- A service without rows fits its journal, whatever its rules are, and each repair in it was allowed, as there is none.
 use Rattle.std.proofs.Common.{◌≡◌, true, false, ℕ, ◌<◌, List, refl, arith, []}
 use Rattle.lang_core.specs.declared.setting.Setting.{Setting}
-use Rattle.authorise_rules.specs.declared.rule.Rule.{Rule}
+use Rattle.authorise_rules.specs.Given.{GivenRules}
 use Rattle.service_events.specs.State.{fresh}
 use Rattle.service_events.specs.Allowed.{IsAllowed}
 use Rattle.service_events.specs.Fits.{Fits}
@@ -12,7 +12,7 @@ below_none k h = omega (arith, h)
 false_is_not_true : false ≡ true → ⊥
 false_is_not_true h = cc
 
-pub fits_start : (setting : Setting) (rules : List Rule) → Fits (fresh setting rules)
+pub fits_start : (setting : Setting) (rules : GivenRules) → Fits (fresh setting rules)
 fits_start setting rules =
     record {
       sent = record { rows = tt; registers = λ n. refl; count = refl; numbered = tt };
@@ -33,7 +33,16 @@ fits_start setting rules =
       flights = record { numbered = λ k d h. absurd (below_none k h); others = λ i j d h w. absurd (below_none j w); untaken = λ k d h. absurd (below_none k h) };
       orders = tt;
       horizon = record { within = omega arith; last = refl; each = λ k d h. absurd (below_none k h); replayed = record { traces = []; replay = refl } };
+      programs = record {
+        rows = tt;
+        rules = refl;
+        newest = refl;
+        current = record { there = refl; stands = refl };
+        past = λ k d h. absurd (below_none k h);
+        entries = λ k d h. absurd (below_none k h);
+        flights = λ k d h. absurd (below_none k h);
+      };
     }
 
-pub allowed_start : (setting : Setting) (rules : List Rule) → IsAllowed (fresh setting rules)
+pub allowed_start : (setting : Setting) (rules : GivenRules) → IsAllowed (fresh setting rules)
 allowed_start setting rules = tt

@@ -11,6 +11,7 @@ use Rattle.handler_run.specs.declared.state.Ran.TheVariants.{Done, Wants}
 use Rattle.request_log.specs.Entries.{has_id, is_alive, IsDistinct, with_entry}
 use Rattle.request_log.specs.declared.entry.Entry.{Entry}
 use Rattle.local_repair.specs.Current.{Consumed, after_entry}
+use Rattle.local_repair.specs.Programs.{setting_of}
 use Rattle.local_repair.specs.Repairs.{stale_id}
 use Rattle.local_repair.specs.Steps.{calls_of_made, answer_at, trace_through, trace_again, remade}
 use Rattle.local_repair.specs.Tests.{is_current, first_stale, step_with}
@@ -27,22 +28,22 @@ use Rattle.service_events.proofs.HorizonLemmas.{all_entries, with_stays, with_un
 -- ---- the trace of a re-execution
 
 turns_same : (s : Kept) (rows : List Cell) (e : Entry) (turns : ℕ) (xs : List Response)
-    → trace_through turns (λ ys. run_of s.setting e.request e.inputs ys rows) (answer_at (answers s) (calls_of_made e.made) e.slots) xs ≡ rerun turns s rows e xs
+    → trace_through turns (λ ys. run_of (setting_of s.setting e) e.request e.inputs ys rows) (answer_at (answers s) (calls_of_made e.made) e.slots) xs ≡ rerun turns s rows e xs
 unfolding trace_through
 turns_same s rows e zero xs = refl
 turns_same s rows e (suc turns) xs =
-    one_turn (run_of s.setting e.request e.inputs xs rows) refl
+    one_turn (run_of (setting_of s.setting e) e.request e.inputs xs rows) refl
     (λ slot call. turns_same s rows e turns (xs ++ answer_at (answers s) (calls_of_made e.made) e.slots slot call ∷ []))
   where
-    one_turn : (ran : Ran) → run_of s.setting e.request e.inputs xs rows ≡ ran
-        → ((slot : ℕ) (call : CallMade) → trace_through turns (λ ys. run_of s.setting e.request e.inputs ys rows) (answer_at (answers s) (calls_of_made e.made) e.slots) (xs ++ answer_at (answers s) (calls_of_made e.made) e.slots slot call ∷ [])
+    one_turn : (ran : Ran) → run_of (setting_of s.setting e) e.request e.inputs xs rows ≡ ran
+        → ((slot : ℕ) (call : CallMade) → trace_through turns (λ ys. run_of (setting_of s.setting e) e.request e.inputs ys rows) (answer_at (answers s) (calls_of_made e.made) e.slots) (xs ++ answer_at (answers s) (calls_of_made e.made) e.slots slot call ∷ [])
         ≡ rerun turns s rows e (xs ++ answer_at (answers s) (calls_of_made e.made) e.slots slot call ∷ []))
-        → Rattle.local_repair.specs.Steps.ended_or ran (λ call. trace_through turns (λ ys. run_of s.setting e.request e.inputs ys rows) (answer_at (answers s) (calls_of_made e.made) e.slots) (xs ++ answer_at (answers s) (calls_of_made e.made) e.slots (length xs) call ∷ []))
+        → Rattle.local_repair.specs.Steps.ended_or ran (λ call. trace_through turns (λ ys. run_of (setting_of s.setting e) e.request e.inputs ys rows) (answer_at (answers s) (calls_of_made e.made) e.slots) (xs ++ answer_at (answers s) (calls_of_made e.made) e.slots (length xs) call ∷ []))
         ≡ ended_or ran (λ slot call. rerun turns s rows e (xs ++ answer_at (answers s) (calls_of_made e.made) e.slots slot call ∷ []))
     one_turn (Done t) is more = refl
     one_turn (Wants slot calls call) is more =
-        let at = (((handler s.setting).steady e.request e.inputs rows).asks xs slot calls call is).0 in
-        ap (λ k. trace_through turns (λ ys. run_of s.setting e.request e.inputs ys rows) (answer_at (answers s) (calls_of_made e.made) e.slots) (xs ++ answer_at (answers s) (calls_of_made e.made) e.slots k call ∷ [])) (sym at)
+        let at = (((handler (setting_of s.setting e)).steady e.request e.inputs rows).asks xs slot calls call is).0 in
+        ap (λ k. trace_through turns (λ ys. run_of (setting_of s.setting e) e.request e.inputs ys rows) (answer_at (answers s) (calls_of_made e.made) e.slots) (xs ++ answer_at (answers s) (calls_of_made e.made) e.slots k call ∷ [])) (sym at)
         ∙ more slot call
 
 -- it is the trace that local repair makes

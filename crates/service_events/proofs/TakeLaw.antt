@@ -24,7 +24,7 @@ use Rattle.call_registers.specs.Replies.{reply, at_entry, with_taken, made_due}
 use Rattle.call_registers.specs.declared.reply.Reply.{Reply}
 use Rattle.call_registers.proofs.ReplyLemmas.{rising_push}
 use Rattle.service_events.specs.Fits.{IsAsNow, HasAnswered, HasReply, IsReply, made_as, asked_as, answer_given, takes_request}
-use Rattle.service_events.specs.Messages.{taken, take_rule, take_new, is_known, acked_row, took_row, acked_again, at_reply_of, created_entry, created_reply, created_place, at_version, taken_by, take_admitted}
+use Rattle.service_events.specs.Messages.{taken, take_rule, take_new, is_known, acked_row, took_row, acked_again, at_reply_of, created_entry, created_reply, created_place, created_row, created_under, at_version, taken_by, take_admitted}
 use Rattle.service_events.specs.State.{Kept, after, next_id}
 use Rattle.service_events.proofs.AskedLemmas.{take_either}
 use Rattle.service_events.proofs.CallerLaws.{all_same}
@@ -230,10 +230,10 @@ module _ (s : Kept) (h : IsLogged s.journal s.entries s.replies) (set : SetMessa
 
   module _ (new : is_known s set ≡ false) (q : Request) (i : Inputs) (desired : set.desired ≡ Some q) (none : find_call (Call set.caller set.number) s.entries ≡ None) where
     abbrev asks : AskedRow
-    asks = record { id = next_id s; origin = Call set.caller set.number; request = q; inputs = i }
+    asks = record { id = next_id s; origin = Call set.caller set.number; request = q; inputs = i; program = (created_under s set).number }
 
     abbrev three : List Row
-    three = took_row s set ∷ (Asked (record { id = next_id s; origin = Call set.caller set.number; request = q; inputs = i }) ∷ (acked_row set ∷ []))
+    three = took_row s set ∷ (created_row s set q i ∷ (acked_row set ∷ []))
 
     own : nat_eq (next_id s) (next_id s) ≡ true
     own = eq-eqb (next_id s) (next_id s) refl
@@ -263,9 +263,9 @@ module _ (s : Kept) (h : IsLogged s.journal s.entries s.replies) (set : SetMessa
     three_mark = fold-append (mark_step (next_id s) set.caller set.number) Unsettled s.journal three
         ∙ cond-true (is_call set.caller set.number (Call set.caller set.number)) Unsettled (last_mark (next_id s) set.caller set.number s.journal) (itself set.caller set.number)
 
-    three_within : set.version ≤ taken_version set.caller set.number ((s.journal ++ took_row s set ∷ []) ++ Asked (record { id = next_id s; origin = Call set.caller set.number; request = q; inputs = i }) ∷ [])
+    three_within : set.version ≤ taken_version set.caller set.number ((s.journal ++ took_row s set ∷ []) ++ created_row s set q i ∷ [])
     three_within =
-        (let is : taken_version set.caller set.number ((s.journal ++ took_row s set ∷ []) ++ Asked (record { id = next_id s; origin = Call set.caller set.number; request = q; inputs = i }) ∷ []) ≡ set.version =
+        (let is : taken_version set.caller set.number ((s.journal ++ took_row s set ∷ []) ++ created_row s set q i ∷ []) ≡ set.version =
         ap version_in (fold_push (taken_step set.caller set.number) None (s.journal ++ took_row s set ∷ []) (Asked asks) ∙ took_last) in omega (arith, is))
 
     three_may : MayCome s.journal three

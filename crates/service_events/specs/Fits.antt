@@ -15,6 +15,7 @@ use Rattle.request_log.specs.declared.entry.Entry.{Entry}
 use Rattle.request_log.specs.declared.entry.Made.{Made}
 use Rattle.local_repair.specs.Current.{AllRuns}
 use Rattle.local_repair.specs.Histories.{ReplayAsKept}
+use Rattle.authorise_rules.specs.Given.{GivenRules}
 use Rattle.journal_rows.specs.Programs.{is_number, is_replaced, newest_now, program_at, program_count, program_now, rules_now}
 use Rattle.journal_rows.specs.Words.{last_sent, named, seen_acked, last_seen, seen_version, claimed, last_noted, noted_version, noted_at, confirmed_version, taken_version, taken_version_of, last_taken_of, is_version_of, wants, asked, asked_count, last_answered, given_version, request_now, is_struck, last_mark, settles, ordered, folded_by, last_folded, last_row}
 use Rattle.journal_rows.specs.declared.callee.AnsweredRow.{AnsweredRow}
@@ -408,15 +409,20 @@ pub record WasUnder (first : List Route) (journal : List Row) (e : Entry) : Type
   pub there : IsThere first journal e.under.now
   pub ran : e.under.ran ≡ e.under.now
 
--- the program of each entry and of each flight, the newest program, and the rules
-pub record FitsPrograms (s : Kept) : Type 0 where
-  pub rows : EachAfter ProgramsOn [] s.journal
-  pub newest : s.newest ≡ newest_now s.setting.program s.journal
-  pub current : IsInUse s.setting.program s.journal s.newest
-  pub rules : s.rules ≡ rules_now s.began s.journal
-  pub past : All (WasUnder s.setting.program s.journal) (folded s)
-  pub entries : All (IsUnder s.setting.program s.journal) (unfolded s)
-  pub flights : All (λ (f : Flight). IsInUse s.setting.program s.journal f.program) s.flights
+-- the rules and the newest program, and the programs of folded entries, of the others and of flights, where this program was the first and
+-- these rules were given first
+pub record ProgramsFollow (first : List Route) (began rules : GivenRules) (newest : Numbered) (journal : List Row) (past entries : List Entry)
+    (flights : List Flight) : Type 0 where
+  pub rows : EachAfter ProgramsOn [] journal
+  pub rules : rules ≡ rules_now began journal
+  pub newest : newest ≡ newest_now first journal
+  pub current : IsInUse first journal newest
+  pub past : All (WasUnder first journal) past
+  pub entries : All (IsUnder first journal) entries
+  pub flights : All (λ (f : Flight). IsInUse first journal f.program) flights
+
+abbrev pub FitsPrograms : Kept → Type 0
+FitsPrograms s = ProgramsFollow s.setting.program s.began s.rules s.newest s.journal (folded s) (unfolded s) s.flights
 
 -- ---- all of it; e. the records of entries that aren't folded are what runs gave
 
