@@ -85,11 +85,11 @@ callers_unasked (row ∷ rows) h = (caller_unasked row h.0, callers_unasked rows
 pub new_under : (first : List Route) (j front back : List Row) (a : AskedRow) (n : Numbered) (e : Entry) → a.id ≡ e.id → a.program ≡ n.number → e.under ≡ under_of n
     → asked e.id j ≡ None → Each IsUnasked front → Each (AsksUnder j) (front ++ Asked a ∷ back) → IsInUse first j n
     → IsUnder first (j ++ (front ++ Asked a ∷ back)) e
-new_under first j front back a n e id program under none unasked asks use =
+new_under first j front back a n e id program under none unasked asks used =
     let rows = front ++ Asked a ∷ back in
     let plain = all_none j (front ++ Asked a ∷ back) asks in
     let keeps : KeepsPlaces j (j ++ (front ++ Asked a ∷ back)) = record { now = now_stays j rows plain; replaced = replaced_stays j rows plain } in
-    let later = use_more first j rows keeps n use in
+    let later = use_more first j rows keeps n used in
     let number : e.under.now.number ≡ n.number = ap (λ (u : Under). u.now.number) under in
     record {
       number = some_and (asked e.id (j ++ rows)) a (λ (r : AskedRow). e.under.now.number ≡ program_now r.program (j ++ rows))

@@ -383,7 +383,7 @@ module _ (first : List Route) (began rules : GivenRules) (newest : Numbered) (pa
         past = All-weaker (WasUnder first j) (WasUnder first (j ++ rows)) (was_more first j rows) past h.past;
         entries = All-weaker (IsUnder first j) (IsUnder first (j ++ rows)) (under_more first j rows keeps) es h.entries;
         flights = All-weaker (λ (f : Flight). IsInUse first j f.program) (λ (f : Flight). IsInUse first (j ++ rows) f.program)
-            (λ f use. use_more first j rows keeps f.program use) fs h.flights;
+            (λ f used. use_more first j rows keeps f.program used) fs h.flights;
       }
 
   pub programs_with : (j : List Row) (es' : List Entry) (fs' : List Flight) → ProgramsFollow first began rules newest j past es fs → All (IsUnder first j) es'

@@ -53,7 +53,7 @@ module _ (first : List Route) (began rules : GivenRules) (newest : Numbered) (j 
         past = All-weaker (WasUnder first j) (WasUnder first (j ++ rows)) (was_more first j rows) past h.past;
         entries = All-weaker (IsUnder first j) (IsUnder first (j ++ rows)) (under_more first j rows keeps) es h.entries;
         flights = All-weaker (λ (f : Flight). IsInUse first j f.program) (λ (f : Flight). IsInUse first (j ++ rows) f.program)
-            (λ f use. use_more first j rows keeps f.program use) fs h.flights;
+            (λ f used. use_more first j rows keeps f.program used) fs h.flights;
       }
 
   module _ (p : List Route) where
@@ -84,7 +84,7 @@ module _ (first : List Route) (began rules : GivenRules) (newest : Numbered) (j 
           past = All-weaker (WasUnder first j) (WasUnder first (j ++ rows)) (was_more first j rows) past h.past;
           entries = All-weaker (IsUnder first j) (IsUnder first (j ++ rows)) (under_more first j rows keeps) es h.entries;
           flights = All-weaker (λ (f : Flight). IsInUse first j f.program) (λ (f : Flight). IsInUse first (j ++ rows) f.program)
-              (λ f use. use_more first j rows keeps f.program use) fs h.flights;
+              (λ f used. use_more first j rows keeps f.program used) fs h.flights;
         }
 
     -- ---- a correction
@@ -111,21 +111,21 @@ module _ (first : List Route) (began rules : GivenRules) (newest : Numbered) (j 
 
       -- another one is in use still
       other_use : (n : Numbered) → nat_eq n.number k ≡ false → IsInUse first j n → IsInUse first (j ++ rows) n
-      other_use n other use = record {
-        there = there_more first j rows n use.there;
-        stands = replaced_now n.number ∙ cond-false (nat_eq n.number k) true (is_replaced n.number j) other ∙ use.stands;
+      other_use n other used = record {
+        there = there_more first j rows n used.there;
+        stands = replaced_now n.number ∙ cond-false (nat_eq n.number k) true (is_replaced n.number j) other ∙ used.stands;
       }
 
       newest_use : (n : Numbered) → IsInUse first j n → IsInUse first (j ++ rows) (newest_by k brought n)
-      newest_use n use = elim (cases_Bool (nat_eq n.number k)) [
+      newest_use n used = elim (cases_Bool (nat_eq n.number k)) [
         | inl is ↦ rw is brought_use
-        | inr isnt ↦ rw isnt (other_use n isnt use)
+        | inr isnt ↦ rw isnt (other_use n isnt used)
       ]
 
       flight_use : (f : Flight) → IsInUse first j f.program → IsInUse first (j ++ rows) (corrected_flight k brought f).program
-      flight_use f use = elim (cases_Bool (nat_eq f.program.number k)) [
+      flight_use f used = elim (cases_Bool (nat_eq f.program.number k)) [
         | inl is ↦ rw is brought_use
-        | inr isnt ↦ rw isnt (other_use f.program isnt use)
+        | inr isnt ↦ rw isnt (other_use f.program isnt used)
       ]
 
       -- the number of an entry follows

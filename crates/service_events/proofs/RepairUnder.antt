@@ -152,13 +152,13 @@ module _ (s : Kept) (f : Fits s) where
   taken_by_under set i None (Some q) recent is =
       let n = created_under s set in
       let low = behind_horizon s (place_between (neighbour s set.caller set.before) (neighbour s set.caller set.after) s.entries) in
-      let use = use_for s (created_place s set) low h in
+      let used = use_for s (created_place s set) low h in
       let a : AskedRow = record { id = next_id s; origin = origin_of set; request = q; inputs = i; program = n.number } in
       let x = created_entry s set q i in
       let rows : List Row = took_row s set ∷ (created_row s set q i ∷ (acked_row set ∷ [])) in
       let asks : Each (AsksUnder s.journal) (took_row s set ∷ (created_row s set q i ∷ (acked_row set ∷ []))) =
-      (tt, ((number_there s.setting.program s.journal n use.there, use.stands), (tt, tt))) in
-      let new = new_under s.setting.program s.journal (took_row s set ∷ []) (acked_row set ∷ []) a n x refl refl refl free (tt, tt) asks use in
+      (tt, ((number_there s.setting.program s.journal n used.there, used.stands), (tt, tt))) in
+      let new = new_under s.setting.program s.journal (took_row s set ∷ []) (acked_row set ∷ []) a n x refl refl refl free (tt, tt) asks used in
       entries_more rows (insert s.entries (created_place s set) x) (drop s.horizon (insert s.entries (created_place s set) x)) asks
       (insert_stays s (created_place s set) x low f.horizon.within) refl
       (all_inserted (IsUnder s.setting.program (s.journal ++ (took_row s set ∷ (created_row s set q i ∷ (acked_row set ∷ []))))) s (created_place s set) x low f.horizon.within new)
@@ -235,12 +235,12 @@ module _ (s : Kept) (f : Fits s) where
       let at = place_made s before after in
       let n = made_under s before after in
       let low = behind_horizon s (place_between before after s.entries) in
-      let use = use_for s at low h in
+      let used = use_for s at low h in
       let a : AskedRow = record { id = next_id s; origin = Outside; request = q; inputs = i; program = n.number } in
       let order : Row = Ordered (record { token = token; command = Create before after q; who = who; rule = order_rule s (Create before after q) who; original = None; repaired = Some q; about = AboutRequest (next_id s) }) in
       let x = created (next_id s) q i n in
-      let asks : Each (AsksUnder s.journal) (order_rows s (Create before after q) token who i) = (tt, ((number_there s.setting.program s.journal n use.there, use.stands), tt)) in
-      let new = new_under s.setting.program s.journal (order ∷ []) [] a n x refl refl refl free (tt, tt) asks use in
+      let asks : Each (AsksUnder s.journal) (order_rows s (Create before after q) token who i) = (tt, ((number_there s.setting.program s.journal n used.there, used.stands), tt)) in
+      let new = new_under s.setting.program s.journal (order ∷ []) [] a n x refl refl refl free (tt, tt) asks used in
       entries_more (order_rows s (Create before after q) token who i) (insert s.entries at x) (drop s.horizon (insert s.entries at x)) asks
       (insert_stays s at x low f.horizon.within) refl
       (all_inserted (IsUnder s.setting.program (s.journal ++ order_rows s (Create before after q) token who i)) s at x low f.horizon.within new)
