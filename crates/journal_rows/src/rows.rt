@@ -1,5 +1,5 @@
 // The rows of a journal, in order.
-ghost use Rattle.std.specs.Prelude.{◌≡◌, ◌+◌, ◌<◌, ◌≤◌, [], ◌∷◌, ◌++◌, length, map, nat_eq, slice_get, slice_index, take, OnOk, OnErr, IfOk, IsOk};
+ghost use Rattle.std.specs.Prelude.{◌≡◌, ◌+◌, ◌<◌, ◌≤◌, ◌^◌, [], ◌∷◌, ◌++◌, length, map, nat_eq, slice_get, slice_index, take, OnOk, OnErr, IfOk, IsOk};
 ghost use Rattle.std.specs.Option.{option_copied};
 ghost use Rattle.lang_lists.specs.Ends.{last_end};
 ghost use Rattle.journal_rows.specs.Keys.{row_key};
@@ -100,7 +100,9 @@ impl Rows {
 
     /// How many programs there are: the one that the service began with, and one for each order that brought one.
     pub fn programs(&self) -> u64
-        ensures { result ≡ program_count self.now.rows }
+        ensures exact { result ≡ program_count self.now.rows }
+        // One more can be counted.
+        ensures few { result + 1 < 2 ^ 64 }
     {
         self.programs
     }
