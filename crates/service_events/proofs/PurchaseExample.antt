@@ -11,11 +11,14 @@ use Rattle.lang_core.specs.declared.setting.Setting.{Setting}
 use Rattle.lang_core.specs.declared.trace.CallMade.{CallMade}
 use Rattle.lang_core.specs.declared.trace.Trace.{Trace}
 use Rattle.lang_core.specs.declared.writes.Write.{Write}
+use Rattle.lang_programs.specs.Numbered.{Numbered}
+use Rattle.lang_programs.specs.Under.{under_of}
 use Rattle.handler_run.specs.declared.state.Ran.TheVariants.{Wants}
 use Rattle.request_log.specs.declared.entry.Entry.{Entry}
 use Rattle.request_log.specs.declared.entry.Made.{Made}
 use Rattle.repair_messages.specs.declared.messages.AnswerMessage.{AnswerMessage}
 use Rattle.repair_messages.specs.declared.messages.SetMessage.{SetMessage}
+use Rattle.authorise_rules.specs.Given.{GivenRules}
 use Rattle.authorise_rules.specs.declared.rule.Kinds.TheVariants.{Any as AnyKind}
 use Rattle.authorise_rules.specs.declared.rule.Rule.{Rule}
 use Rattle.authorise_rules.specs.declared.rule.Senders.TheVariants.{Any as AnySender}
@@ -54,9 +57,30 @@ ok = record { status = 200; body = 111 ∷ (107 ∷ []) }
 abbrev pub allow_any : Rule
 allow_any = record { verb = Allow; kind = AnyKind; from = AnySender; who = AnyUser; prefix = [] }
 
+-- the rules with which both services begin; how their text reads makes no difference here
+abbrev pub given : GivenRules
+given = record { text = []; rules = allow_any ∷ [] }
+
 module _ (setting : Setting) (buy pay : Request) (i : Inputs) (read : List Read) (written : List Write) (token ann : List ℕ) where
   abbrev pub start : Kept
-  start = record { setting = setting; rules = allow_any ∷ []; entries = []; horizon = 0; base = []; flights = []; journal = []; registers = []; replies = [] }
+  start =
+      record {
+        setting = setting;
+        began = given;
+        rules = given;
+        newest = record { number = 1; program = setting.program };
+        entries = [];
+        horizon = 0;
+        base = [];
+        flights = [];
+        journal = [];
+        registers = [];
+        replies = [];
+      }
+
+  -- nobody brings another program
+  abbrev pub program : Numbered
+  program = record { number = 1; program = setting.program }
 
   abbrev pub call : CallMade
   call = record { dest = bank_name; request = pay }
@@ -64,7 +88,7 @@ module _ (setting : Setting) (buy pay : Request) (i : Inputs) (read : List Read)
   -- ---- the shop
 
   abbrev pub flight : List CallMade → List ℕ → Flight
-  flight calls numbers = record { id = 1; origin = Outside; request = buy; inputs = i; calls = calls; numbers = numbers; changes = 0 }
+  flight calls numbers = record { id = 1; origin = Outside; request = buy; inputs = i; program = program; calls = calls; numbers = numbers; changes = 0 }
 
   abbrev pub sent : Row
   sent = Sent (record { number = 1; dest = bank_name; version = 1; desired = Some pay })
@@ -127,6 +151,7 @@ module _ (setting : Setting) (buy pay : Request) (i : Inputs) (read : List Read)
         wanted = true;
         struck = struck;
         inputs = i;
+        under = under_of program;
         made = Some made;
         slots = slots;
         answer_version = answer_version;
@@ -138,7 +163,7 @@ module _ (setting : Setting) (buy pay : Request) (i : Inputs) (read : List Read)
 
   abbrev pub commit_rows : List Row
   commit_rows =
-      Asked (record { id = 1; origin = Outside; request = buy; inputs = i })
+      Asked (record { id = 1; origin = Outside; request = buy; inputs = i; program = 1 })
       ∷ (Answered (record { id = 1; origin = Outside; answer_version = 1; version = 0; response = ok; live = true }) ∷ [])
 
   abbrev pub bought : Kept
@@ -197,6 +222,7 @@ module _ (setting : Setting) (buy pay : Request) (i : Inputs) (read : List Read)
         wanted = wanted;
         struck = false;
         inputs = i;
+        under = under_of program;
         made = Some made;
         slots = [];
         answer_version = answer_version;
@@ -223,7 +249,7 @@ module _ (setting : Setting) (buy pay : Request) (i : Inputs) (read : List Read)
 
   abbrev pub paid_rows : List Row
   paid_rows =
-      Asked (record { id = 1; origin = Call shop_name 1; request = pay; inputs = i })
+      Asked (record { id = 1; origin = Call shop_name 1; request = pay; inputs = i; program = 1 })
       ∷ (Took (record { caller = shop_name; number = 1; version = 1; desired = Some pay; how = Live; who = pay.who; rule = 0 })
       ∷ (Answered (record { id = 1; origin = Call shop_name 1; answer_version = 1; version = 1; response = ok; live = true }) ∷ []))
 
