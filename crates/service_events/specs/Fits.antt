@@ -411,15 +411,14 @@ pub record WasUnder (first : List Route) (journal : List Row) (e : Entry) : Type
 
 -- the rules and the newest program, and the programs of folded entries, of the others and of flights, where this program was the first and
 -- these rules were given first
-pub record ProgramsFollow (first : List Route) (began rules : GivenRules) (newest : Numbered) (journal : List Row) (past entries : List Entry)
-    (flights : List Flight) : Type 0 where
+pub record ProgramsFollow (first : List Route) (began stand : GivenRules) (last : Numbered) (journal : List Row) (gone others : List Entry) (aloft : List Flight) : Type 0 where
   pub rows : EachAfter ProgramsOn [] journal
-  pub rules : rules ≡ rules_now began journal
-  pub newest : newest ≡ newest_now first journal
-  pub current : IsInUse first journal newest
-  pub past : All (WasUnder first journal) past
-  pub entries : All (IsUnder first journal) entries
-  pub flights : All (λ (f : Flight). IsInUse first journal f.program) flights
+  pub rules : stand ≡ rules_now began journal
+  pub newest : last ≡ newest_now first journal
+  pub current : IsInUse first journal last
+  pub past : All (WasUnder first journal) gone
+  pub entries : All (IsUnder first journal) others
+  pub flights : All (λ (f : Flight). IsInUse first journal f.program) aloft
 
 abbrev pub FitsPrograms : Kept → Type 0
 FitsPrograms s = ProgramsFollow s.setting.program s.began s.rules s.newest s.journal (folded s) (unfolded s) s.flights
