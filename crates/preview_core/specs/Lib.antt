@@ -3,3 +3,4 @@ pub mod Repairs
 pub mod Differences
 pub mod Posts
 pub mod Previews
+pub mod HandedOn

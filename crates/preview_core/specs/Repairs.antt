@@ -4,6 +4,7 @@ use Rattle.lang_core.specs.declared.ids.Origin.{Origin}
 use Rattle.lang_core.specs.declared.inputs.Inputs.{Inputs}
 use Rattle.lang_core.specs.declared.request.Request.{Request}
 use Rattle.lang_core.specs.declared.request.Response.{Response}
+use Rattle.lang_programs.specs.Numbered.{Numbered}
 use Rattle.request_log.specs.Records.{Record, record_of}
 use Rattle.request_log.specs.declared.entry.Entry.{Entry}
 use Rattle.local_repair.specs.Current.{AllCurrent}
@@ -55,7 +56,7 @@ AreResponses s ids list = map Some list ≡ map (ran_one s) ids
 
 -- ---- what no step changes
 
--- what an entry is to answer, whatever its runs did
+-- what an entry is to answer, under which program, whatever its runs did
 pub record Asks : Type 0 where
   pub id : ℕ
   pub origin : Origin
@@ -64,6 +65,7 @@ pub record Asks : Type 0 where
   pub wanted : Bool
   pub struck : Bool
   pub inputs : Inputs
+  pub program : Numbered
 
 abbrev pub asks : Entry → Asks
 asks e = record {
@@ -74,6 +76,7 @@ asks e = record {
   wanted = e.wanted;
   struck = e.struck;
   inputs = e.inputs;
+  program = e.under.now;
 }
 
 abbrev pub all_asks : Kept → List Asks

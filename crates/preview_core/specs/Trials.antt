@@ -13,13 +13,14 @@ use Rattle.service_events.specs.declared.refusals.OrderRefused.{OrderRefused}
 use Rattle.preview_core.specs.declared.refused.PreviewRefused.{PreviewRefused}
 use Rattle.preview_core.specs.declared.refused.PreviewRefused.TheVariants.{NoMemory, Order}
 use Rattle.preview_core.specs.declared.trial.Trial.{Trial}
-use Rattle.preview_core.specs.declared.trial.Trial.TheVariants.{Cancel, Restore, Replace}
+use Rattle.preview_core.specs.declared.trial.Trial.TheVariants.{Cancel, Restore, Replace, Correct}
 
 -- the order that a trial is
 abbrev pub command_of : Trial → Command
 command_of (Cancel id) = command.Cancel id
 command_of (Restore id) = command.Restore id
 command_of (Replace id method path body) = command.Replace id method path body
+command_of (Correct k p) = command.Correct k p
 
 -- ---- tokens
 

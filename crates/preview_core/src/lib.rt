@@ -15,6 +15,6 @@ mod trying;
 
 pub use previewing::preview;
 pub use refused::PreviewRefused;
-pub use service_core::Service;
+pub use service_core::{ProgramInUse, Service};
 pub use told::{PostList, PostOne, Preview, RanList, RanOne};
 pub use trial::{Trial, Trials};

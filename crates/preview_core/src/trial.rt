@@ -4,7 +4,8 @@ ghost use Rattle.preview_core.specs.declared.trial.Trial.{Trial as TrialValue};
 ghost use Rattle.preview_core.specs.Trials.{command_of};
 
 use journal_rows::Command;
-use lang_core::{Copied, Method, NoMemory, Seq, Text};
+use lang_core::{Copied, Method, NoMemory, Seq, Shared, Text};
+use lang_programs::ProgramText;
 use repair_messages::copied_pair;
 use std::alloc::Global;
 
@@ -22,6 +23,8 @@ pub enum Trial {
         path: Text,
         body: Text,
     },
+    /// A program stands in place of the one of this number.
+    Correct(u64, Shared<ProgramText>),
 }
 
 /// Orders that are tried one behind another.
@@ -56,6 +59,7 @@ impl Copied for Trial {
                 path,
                 body,
             } => copied_replace(alloc, *id, *method, path, body),
+            Trial::Correct(number, program) => Ok(Trial::Correct(*number, program.copied(alloc)?)),
         }
     }
 }
@@ -77,6 +81,7 @@ fn command_in(trial: Trial) -> Command
             path,
             body,
         },
+        Trial::Correct(number, program) => Command::Correct(number, program),
     }
 }
 

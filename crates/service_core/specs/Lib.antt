@@ -1,4 +1,5 @@
 pub mod Readings
+pub mod Programs
 pub mod Answers
 pub mod Past
 pub mod HandedOn

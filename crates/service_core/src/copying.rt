@@ -29,11 +29,16 @@ fn equal_parts(alloc: Global, parts: &Parts) -> Result<Parts, NoMemory>
     let log = both(parts.repairer.copied(alloc), parts.flights.copied(alloc));
     let calls = both(parts.registers.copied(alloc), parts.replies.copied(alloc));
     let journal = copied_journal(alloc, &parts.journal, parts.flights.as_slice());
-    let given = both(parts.setting.copied(alloc), parts.rules.copied(alloc));
+    let rules = both(parts.began.copied(alloc), parts.rules.copied(alloc));
+    let programs = both(parts.setting.copied(alloc), parts.newest.copied(alloc));
+    let given = both(programs, rules);
     let (log, (calls, (given, journal))) = both(log, both(calls, both(given, journal)))?;
+    let (programs, rules) = given;
     Ok(Parts {
-        setting: given.0,
-        rules: given.1,
+        setting: programs.0,
+        began: rules.0,
+        rules: rules.1,
+        newest: programs.1,
         repairer: log.0,
         flights: log.1,
         journal,

@@ -3,6 +3,9 @@
 #![tactic(auto)]
 
 mod copying;
+mod programs;
 mod service;
+mod starting;
 
+pub use programs::ProgramInUse;
 pub use service::Service;

@@ -16,6 +16,7 @@ ghost use Rattle.service_events.specs.Progress.{Counts, GoesFurther, IsLocalStep
 ghost use Rattle.service_events.specs.RunsOn.{Begins, GoesOnTo, IsStep};
 ghost use Rattle.service_core.specs.Answers.{Answers};
 ghost use Rattle.service_core.specs.Past.{EventKeeps, OrderKeeps};
+ghost use Rattle.service_core.specs.Programs.{programs_in_use};
 ghost use Rattle.service_core.specs.Readings.{awaited_by, first_stale, AreReplayed, IsReplayedBefore};
 ghost use Rattle.service_events.specs.Event.{Happens, IsFailure, MayHappen};
 ghost use Rattle.service_events.specs.Doing.{answer_memory, arrive_memory, call_memory, give_memory, order_memory, post_memory, take_memory, Does};
@@ -27,11 +28,16 @@ ghost use Rattle.service_posts.specs.Goes.{GoesTo};
 ghost use Rattle.service_repairs.specs.Answers.{answered_by, Steps};
 
 use crate::copying::copied_parts;
-use authorise_rules::Rules;
+use crate::programs::{ProgramInUse, programs_in_use};
+use crate::starting::{first_program, first_rules};
+use authorise_rules::GivenRules;
 use call_registers::{Registers, Replies, Why};
 use flights::Flights;
 use journal_rows::{Command, Rows};
-use lang_core::{Cells, Copied, Inputs, Name, NoMemory, Origin, Request, Setting, Text};
+use lang_core::{
+    Cells, Copied, Inputs, Name, NoMemory, Origin, Request, Seq, Setting, Shared, Text,
+};
+use lang_programs::Deployed;
 use local_repair::{Repairer, Stepped};
 use repair_messages::{AnswerMessage, Fetch, Post, PostName, SetMessage, TokenMessage};
 use request_log::Log;
@@ -47,10 +53,10 @@ use service_requests::{abandon, arrive, call_answered, call_failed};
 use std::alloc::Global;
 use std::marker::Model;
 
-/// A service whose requests call other services: its setting, the rules by which it allows repairs, its log under repair, its
-/// flights, its journal, its registers and its replies. Its type keeps that all of them fit the journal, that each repair in
-/// the journal was allowed, that there are at most 100,000 flights and entries that aren't folded, and that there is room to
-/// abandon each flight.
+/// A service whose requests call other services: its setting, the rules by which it allows repairs, the program under which
+/// what comes runs, its log under repair, its flights, its journal, its registers and its replies. Its type keeps that all of
+/// them fit the journal, that each repair in the journal was allowed, that there are at most 100,000 flights and entries that
+/// aren't folded, and that there is room to abandon each flight.
 pub struct Service {
     parts: Parts,
     // Of the first entries that aren't folded so many are known to be current. A repair step doesn't look at them again, and notes how many
@@ -83,34 +89,59 @@ impl Model for Service {
 }
 
 impl Service {
-    /// A service that has answered nothing yet, which allows repairs by these rules.
-    pub fn new(alloc: Global, setting: Setting, rules: Rules) -> Service
-        ensures { result ≡ fresh setting rules }
+    /// A service that has answered nothing yet, which allows repairs by these rules. Its setting's program has number 1.
+    pub fn new(alloc: Global, setting: Setting, rules: GivenRules) -> Result<Service, NoMemory>
+        ensures { IfOk result (λ service. service ≡ fresh setting rules) }
     {
+        let newest = first_program(alloc, &setting)?;
+        let (began, rules) = first_rules(alloc, rules)?;
         let parts = Parts {
             setting,
+            began,
             rules,
+            newest,
             repairer: Repairer::new(alloc),
             flights: Flights::new(alloc),
             journal: Rows::new(alloc),
             registers: Registers::new(alloc),
             replies: Replies::new(alloc),
         };
-        Service { parts, checked: 0 }
+        Ok(Service { parts, checked: 0 })
     }
 
-    /// What it is set to do.
+    /// What it is set to do. The program in it has number 1.
     pub fn setting(&self) -> &Setting
         ensures { result.now ≡ self.now.setting }
     {
         &self.parts.setting
     }
 
-    /// The rules by which it allows repairs.
-    pub fn rules(&self) -> &Rules
+    /// The rules with which it began.
+    pub fn began(&self) -> &GivenRules
+        ensures { result.now ≡ self.now.began }
+    {
+        self.parts.began.get()
+    }
+
+    /// The rules by which it allows repairs: the last that an order gave, or those with which it began.
+    pub fn rules(&self) -> &GivenRules
         ensures { result.now ≡ self.now.rules }
     {
-        &self.parts.rules
+        self.parts.rules.get()
+    }
+
+    /// The program under which what comes runs, with its number.
+    pub fn newest(&self) -> &Shared<Deployed>
+        ensures { result.now ≡ self.now.newest }
+    {
+        &self.parts.newest
+    }
+
+    /// The newest program, and each that an entry has that isn't folded, or a flight: by their numbers, with how many have them.
+    pub fn programs(&self, alloc: Global) -> Result<Seq<ProgramInUse>, NoMemory>
+        ensures { IfOk result (λ list. list ≡ programs_in_use self.now) }
+    {
+        programs_in_use(alloc, &self.parts)
     }
 
     /// Its log: the folded entries, which nothing repairs any more, and behind them the others.
@@ -320,9 +351,12 @@ impl Service {
 
     /// Carries out an order of an operator. An order whose token was accepted before is answered as then, without memory, and
     /// changes nothing. It is refused where it names what isn't there or is folded, replaces a request of another service, retries
-    /// a post that isn't held, would fold an entry that is stale, owes its reply or has a call that isn't done with, or where there
-    /// is too much; and last, with the number of the rule, where the service's rules deny it. What was folded stays as it is, and
-    /// a fold leaves all that is read, replayed or audited as it was.
+    /// a post that isn't held, would fold an entry that is stale, owes its reply or has a call that isn't done with, corrects a
+    /// program that isn't there, or where there is too much; and last, with the number of the rule, where the service's rules deny
+    /// it. What was folded stays as it is, and a fold leaves all that is read, replayed or audited as it was; a program or rules
+    /// from now on leave every entry as it is, and none stale that wasn't. Once a program stands in the place of another one,
+    /// exactly those entries are stale whose record's handler isn't that of their program now, and those that another cause makes
+    /// stale, as before it.
     pub fn order(
         &mut self,
         alloc: Global,

@@ -5,9 +5,9 @@ use Rattle.lang_core.specs.declared.request.Request.{Request}
 use Rattle.repair_messages.specs.declared.messages.SetMessage.{SetMessage}
 use Rattle.journal_rows.specs.declared.callee.TookHow.TheVariants.{Message}
 use Rattle.journal_rows.specs.declared.row.Row.{Row}
-use Rattle.journal_rows.specs.declared.row.Row.TheVariants.{Asked, Took}
-use Rattle.service_events.specs.State.{Kept, next_id}
-use Rattle.service_events.specs.Messages.{acked_row, origin_of}
+use Rattle.journal_rows.specs.declared.row.Row.TheVariants.{Took}
+use Rattle.service_events.specs.State.{Kept}
+use Rattle.service_events.specs.Messages.{acked_row, created_row}
 
 -- taken, as this rule allows
 abbrev pub took_by : ℕ → SetMessage → Row
@@ -22,11 +22,8 @@ took_by rule set =
       rule = rule;
     })
 
-abbrev pub asked_row : Kept → SetMessage → Request → Inputs → Row
-asked_row s set q i = Asked (record { id = next_id s; origin = origin_of set; request = q; inputs = i })
-
 abbrev pub taken_rows : ℕ → SetMessage → List Row
 taken_rows rule set = took_by rule set ∷ (acked_row set ∷ [])
 
 abbrev pub created_rows : ℕ → Kept → SetMessage → Request → Inputs → List Row
-created_rows rule s set q i = took_by rule set ∷ (asked_row s set q i ∷ (acked_row set ∷ []))
+created_rows rule s set q i = took_by rule set ∷ (created_row s set q i ∷ (acked_row set ∷ []))

@@ -96,7 +96,7 @@ fn decision(parts: &Parts, set: &SetMessage) -> Decision
     let kind = kind_of(set, known.is_some());
     let new_path = path_of(set.desired.as_ref());
     decision_by(
-        &parts.rules,
+        parts.rules.get().rules(),
         kind,
         Some(&set.caller),
         &set.who,

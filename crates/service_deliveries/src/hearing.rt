@@ -36,7 +36,7 @@ fn decision<'a>(parts: &Parts, token: &'a TokenMessage, register: &'a Register) 
         old_path,
         new_path: None,
     };
-    decide(&parts.rules, &asked)
+    decide(parts.rules.get().rules(), &asked)
 }
 
 // The rule that allows it, or the one that denies it.

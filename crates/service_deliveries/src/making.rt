@@ -1,9 +1,9 @@
 // The rows, the entries and the replies of a version that is taken.
 ghost use Rattle.std.specs.Prelude.{◌≡◌, ◌+◌, ◌≤◌, ◌∷◌, ◌++◌, [], length, IfOk, OnOk};
 ghost use Rattle.journal_rows.specs.Words.{or_before};
-ghost use Rattle.service_events.specs.Messages.{acked_row, at_version, created_entry, created_place, created_reply, neighbour, origin_of, taken};
+ghost use Rattle.service_events.specs.Messages.{acked_row, at_version, created_entry, created_place, created_reply, created_row, created_under, neighbour, origin_of, taken};
 ghost use Rattle.service_parts.specs.Parts.{kept};
-ghost use Rattle.service_deliveries.specs.Rows.{asked_row, created_rows, taken_rows, took_by};
+ghost use Rattle.service_deliveries.specs.Rows.{created_rows, taken_rows, took_by};
 
 use call_registers::Reply;
 use create_placement::place;
@@ -11,9 +11,9 @@ use journal_rows::{AckedRow, AskedRow, Row, TookHow, TookRow};
 use lang_base::both;
 use lang_core::{Copied, Inputs, Name, NoMemory, Origin, Request, Shared};
 use repair_messages::{Ack, SetMessage, copied_pair};
-use request_log::{Entry, KeptEntry};
+use request_log::{Deployed, Entry, KeptEntry};
 use service_events::Taken;
-use service_parts::{Parts, created, id_from, next_id};
+use service_parts::{Parts, created, id_from, next_id, program_for};
 use std::alloc::Global;
 
 /// What is answered, where this rule allowed it.
@@ -108,7 +108,7 @@ fn push_asked(
     inputs: &Shared<Inputs>,
     rows: &mut Vec<Row>,
 ) -> Result<(), NoMemory>
-    ensures { OnOk result (rows.new.items ≡ rows.old.items ++ asked_row (kept parts.now) set.now request.now inputs.now ∷ []) }
+    ensures { OnOk result (rows.new.items ≡ rows.old.items ++ created_row (kept parts.now) set.now request.now inputs.now ∷ []) }
 {
     let asked = both(request.copied(alloc), inputs.copied(alloc));
     let (origin, asked) = both(origin_of(alloc, set), asked)?;
@@ -117,6 +117,7 @@ fn push_asked(
         origin,
         request: asked.0,
         inputs: asked.1,
+        program: created_under(parts, set).get().number(),
     }))?;
     Ok(())
 }
@@ -186,7 +187,7 @@ pub(crate) fn at_version(alloc: Global, set: &SetMessage, entry: &Entry) -> Resu
     Ok(then)
 }
 
-/// The entry that a version makes, which never ran.
+/// The entry that a version makes, which never ran, under the program of its place.
 pub(crate) fn created_entry(
     alloc: Global,
     parts: &Parts,
@@ -197,8 +198,12 @@ pub(crate) fn created_entry(
     ensures { IfOk result (λ entry. entry ≡ created_entry (kept parts.now) set.now request.now inputs.now) }
 {
     let asked = both(request.copied(alloc), inputs.copied(alloc));
-    let (origin, asked) = both(origin_of(alloc, set), asked)?;
-    let mut entry = created(alloc, next_id(parts), asked.0, asked.1);
+    let begun = both(
+        origin_of(alloc, set),
+        created_under(parts, set).copied(alloc),
+    );
+    let (asked, (origin, program)) = both(asked, begun)?;
+    let mut entry = created(alloc, next_id(parts), asked.0, asked.1, program);
     entry.origin = origin;
     entry.version = set.version;
     KeptEntry::of(alloc, entry)
@@ -244,4 +249,11 @@ pub(crate) fn created_place(parts: &Parts, set: &SetMessage) -> u64
     let before = neighbour(parts, &set.caller, set.before);
     let after = neighbour(parts, &set.caller, set.after);
     place(parts.repairer.log(), before, after)
+}
+
+// The program of the entry that a version makes: that of its place.
+fn created_under<'a>(parts: &'a Parts, set: &SetMessage) -> &'a Shared<Deployed>
+    ensures { result.now ≡ created_under (kept parts.now) set.now }
+{
+    program_for(parts, created_place(parts, set))
 }

@@ -14,7 +14,9 @@ abbrev pub kept : Parts → Kept
 kept p =
     record {
       setting = p.setting;
+      began = p.began;
       rules = p.rules;
+      newest = p.newest;
       entries = whole_log p.repairer;
       horizon = length p.repairer.folded;
       base = p.repairer.base;

@@ -12,7 +12,7 @@ ghost use Rattle.service_parts.specs.Parts.{kept, whole_log};
 use crate::parts::Parts;
 use lang_core::{Inputs, Name, NoMemory, Origin, Request, Shared, ThinSeq};
 use local_repair::Repairer;
-use request_log::{Entry, KeptEntry, Log};
+use request_log::{Deployed, Entry, KeptEntry, Log, Under};
 use std::alloc::Global;
 
 /// The number of the next entry of a log.
@@ -31,9 +31,15 @@ pub fn next_id(parts: &Parts) -> u64
     next_in(parts.repairer.log())
 }
 
-/// The entry of a request from outside that never ran.
-pub fn created(alloc: Global, id: u64, request: Shared<Request>, inputs: Shared<Inputs>) -> Entry
-    ensures { result ≡ created id request inputs }
+/// The entry of a request from outside, under this program, that never ran.
+pub fn created(
+    alloc: Global,
+    id: u64,
+    request: Shared<Request>,
+    inputs: Shared<Inputs>,
+    program: Shared<Deployed>,
+) -> Entry
+    ensures { result ≡ created id request inputs program }
 {
     Entry {
         id,
@@ -43,6 +49,7 @@ pub fn created(alloc: Global, id: u64, request: Shared<Request>, inputs: Shared<
         wanted: true,
         struck: false,
         inputs,
+        under: Under::of(program),
         made: None,
         slots: ThinSeq::new(alloc),
         answer_version: 0,

@@ -15,6 +15,7 @@ mod limits;
 mod noting;
 mod numbers;
 mod parts;
+mod programs;
 mod rows;
 mod view;
 
@@ -26,9 +27,10 @@ pub use entries::{
     amend, append, created, id_from, insert, next_id, next_in, request_from, request_of, rewrite,
     set_struck,
 };
-pub use limits::{is_crowded, is_heavy};
+pub use limits::{MOST_PROGRAMS, is_crowded, is_heavy, is_programmed};
 pub use noting::note_rows;
 pub use numbers::next_of;
 pub use parts::Parts;
+pub use programs::program_for;
 pub use rows::{change_rows, deleted, named, push_deleted, replaced};
 pub use view::{DraftedRegisters, RegistersView, drafted};

@@ -1,9 +1,8 @@
 -- Why an order is refused, or which rule allows it; what it leaves where it is accepted, and what it needs of a service that is to carry
 -- it out.
-use Rattle.std.specs.Prelude.{ℕ, ◌≡◌, List, [], ◌∷◌, Option, Some, None, Result, Ok, Err, if◌then◌else◌, find, is_some, option_map}
+use Rattle.std.specs.Prelude.{ℕ, ◌≡◌, List, [], ◌∷◌, Option, Some, None, Result, Ok, Err, find, option_map}
 use Rattle.lang_core.specs.declared.ids.Origin.TheVariants.{Outside}
 use Rattle.lang_core.specs.declared.inputs.Inputs.{Inputs}
-use Rattle.lang_core.specs.declared.request.Request.{Request}
 use Rattle.request_log.specs.Entries.{has_id}
 use Rattle.authorise_rules.specs.Deciding.{decision}
 use Rattle.authorise_rules.specs.declared.asked.Decision.{Decision}
@@ -11,25 +10,21 @@ use Rattle.authorise_rules.specs.declared.asked.Decision.TheVariants.{Allow, Den
 use Rattle.journal_rows.specs.declared.orders.Command.{Command}
 use Rattle.journal_rows.specs.declared.row.Row.{Row}
 use Rattle.journal_rows.specs.declared.row.Row.TheVariants.{Asked, Ordered as OrderedAs}
-use Rattle.service_events.specs.State.{Kept, next_id, or_else, is_crowded, is_heavy}
+use Rattle.service_events.specs.State.{Kept, next_id, or_else}
 use Rattle.service_events.specs.Questions.{question_about}
-use Rattle.service_events.specs.Orders.{about, misnamed, order_rows, order_rule, refused, unless_quiet}
+use Rattle.service_events.specs.Orders.{about, is_too_much, misnamed, order_rows, order_rule, refused, unless_quiet}
 use Rattle.service_events.specs.declared.refusals.OrderRefused.{OrderRefused}
 use Rattle.service_events.specs.declared.refusals.OrderRefused.TheVariants.{Denied, Full}
-use Rattle.service_repairs.specs.Resolving.{Resolution}
+use Rattle.service_repairs.specs.Resolving.{Creation, Resolution}
 use Rattle.service_repairs.specs.declared.ordering.OrderDraft.{OrderDraft}
-
--- how much there is, where there is too much: the weight counts first
-abbrev pub too_much : Kept → Option Request → Option ℕ
-too_much s created = or_else (is_heavy s) (if is_some created then is_crowded s else None)
 
 -- why it can't be carried out, whoever may order it
 abbrev pub unless_carried : Kept → Resolution → Option OrderRefused
-unless_carried s r = or_else (or_else r.misnamed (unless_quiet s r.command)) (option_map (λ n. Full n) (too_much s r.created))
+unless_carried s r = or_else (or_else r.misnamed (unless_quiet s r.command)) (option_map (λ n. Full n) (is_too_much s r.command))
 
 -- what the service's rules decide of it
 abbrev pub decision_on : Kept → Resolution → List ℕ → Decision
-decision_on s r who = decision s.rules (question_about r.kind None who r.subject r.repaired)
+decision_on s r who = decision s.rules.rules (question_about r.kind None who r.subject r.repaired)
 
 -- the rule that allows it, or the one that denies it
 abbrev pub allowance : Decision → Result ℕ OrderRefused
@@ -47,9 +42,10 @@ admission s r who = admitted (unless_carried s r) (decision_on s r who)
 -- ---- what an accepted one leaves
 
 -- the row of the entry that it makes, if it makes one
-abbrev pub made_rows : Kept → Option Request → Inputs → List Row
+abbrev pub made_rows : Kept → Option Creation → Inputs → List Row
 made_rows s None i = []
-made_rows s (Some q) i = Asked (record { id = next_id s; origin = Outside; request = q; inputs = i }) ∷ []
+made_rows s (Some c) i =
+    Asked (record { id = next_id s; origin = Outside; request = c.request; inputs = i; program = c.program }) ∷ []
 
 -- the rows of one that this rule allowed
 abbrev pub allowed_rows : Kept → Resolution → List ℕ → List ℕ → Inputs → ℕ → List Row

@@ -1,49 +1,58 @@
 // Why an order is refused, and which rule allows it.
-ghost use Rattle.std.specs.Prelude.{◌≡◌, ◌≤◌, None, if◌then◌else◌, is_some, option_map};
+ghost use Rattle.std.specs.Prelude.{◌≡◌, ◌≤◌, None, option_map};
 ghost use Rattle.std.specs.Option.{option_copied};
 ghost use Rattle.lang_core.specs.declared.request.Request.{Request};
-ghost use Rattle.service_events.specs.State.{in_all, is_crowded, unfolded};
+ghost use Rattle.service_events.specs.State.{in_all, unfolded};
+ghost use Rattle.service_events.specs.Orders.{is_too_much, lacks_place};
 ghost use Rattle.request_log.specs.Entries.{IsDistinct};
 ghost use Rattle.service_parts.specs.Parts.{kept};
-ghost use Rattle.service_repairs.specs.Ordering.{admission, allowance, decision_on, too_much, unless_carried};
+ghost use Rattle.service_repairs.specs.Ordering.{admission, allowance, decision_on, unless_carried};
 ghost use Rattle.service_repairs.specs.Resolving.{put_request, resolved};
 
 use crate::folding::unless_quiet;
 use crate::resolving::{Put, Resolved};
 use authorise_rules::Decision;
-use lang_core::{Request, Text};
+use journal_rows::Command;
+use lang_core::Text;
 use service_events::OrderRefused;
-use service_parts::{Parts, decision_by, is_crowded, is_heavy};
+use service_parts::{Parts, decision_by, is_crowded, is_heavy, is_programmed};
 
 // ---- why it can't be carried out
 
-// Only where an entry is made must there be a place for one.
-fn crowded_for(parts: &Parts, created: Option<&Request>) -> Option<u64>
+// Where an entry is made there must be a place for one, and where a program is brought, for that.
+fn lacks_place(parts: &Parts, command: &Command) -> Option<u64>
     requires { in_all (kept parts.now) ≤ 100000 }
-    ensures { result ≡ (if is_some (option_copied created.entry) then is_crowded (kept parts.now) else None) }
+    ensures { result ≡ lacks_place (kept parts.now) command.now }
 {
-    match created {
-        None => None,
-        Some(_) => is_crowded(parts),
+    match command {
+        Command::Create { .. } => is_crowded(parts),
+        Command::Deploy(_) => is_programmed(parts),
+        Command::Correct(_, _) => is_programmed(parts),
+        Command::Cancel(_) => None,
+        Command::Restore(_) => None,
+        Command::Replace { .. } => None,
+        Command::Retry(_) => None,
+        Command::Fold(_) => None,
+        Command::Rules(_) => None,
     }
 }
 
 // How much there is, where there is too much: the weight counts first.
-fn too_much(parts: &Parts, created: Option<&Request>) -> Option<u64>
+fn too_much(parts: &Parts, command: &Command) -> Option<u64>
     requires { in_all (kept parts.now) ≤ 100000 }
-    ensures { result ≡ too_much (kept parts.now) (option_copied created.entry) }
+    ensures { result ≡ is_too_much (kept parts.now) command.now }
 {
     match is_heavy(parts) {
         Some(weight) => Some(weight),
-        None => crowded_for(parts, created),
+        None => lacks_place(parts, command),
     }
 }
 
-fn unless_room(parts: &Parts, created: Option<&Request>) -> Option<OrderRefused>
+fn unless_room(parts: &Parts, command: &Command) -> Option<OrderRefused>
     requires { in_all (kept parts.now) ≤ 100000 }
-    ensures { result ≡ option_map (λ n. OrderRefused.Full n) (too_much (kept parts.now) (option_copied created.entry)) }
+    ensures { result ≡ option_map (λ n. OrderRefused.Full n) (is_too_much (kept parts.now) command.now) }
 {
-    match too_much(parts, created) {
+    match too_much(parts, command) {
         None => None,
         Some(much) => Some(OrderRefused::Full(much)),
     }
@@ -61,7 +70,7 @@ fn unless_carried(parts: &Parts, order: &Resolved<'_>) -> Option<OrderRefused>
     }
     match unless_quiet(parts, order.command) {
         Some(why) => Some(why),
-        None => unless_room(parts, order.created),
+        None => unless_room(parts, order.command),
     }
 }
 
@@ -81,7 +90,14 @@ fn decision(parts: &Parts, order: &Resolved<'_>, who: &Text) -> Decision
     ensures { result ≡ decision_on (kept parts.now) (resolved order.now) who.now }
 {
     let new_path = path_put(&order.put);
-    decision_by(&parts.rules, order.kind, None, who, order.subject, new_path)
+    decision_by(
+        parts.rules.get().rules(),
+        order.kind,
+        None,
+        who,
+        order.subject,
+        new_path,
+    )
 }
 
 // The rule that allows it, or the one that denies it.

@@ -148,6 +148,9 @@ pub(crate) fn unless_quiet(parts: &Parts, command: &Command) -> Option<OrderRefu
         Command::Replace { .. } => None,
         Command::Create { .. } => None,
         Command::Retry(_) => None,
+        Command::Deploy(_) => None,
+        Command::Correct(_, _) => None,
+        Command::Rules(_) => None,
     }
 }
 

@@ -7,6 +7,7 @@ mod book;
 mod folding;
 mod order_drafts;
 mod ordering;
+mod programs;
 mod repairing;
 mod resolving;
 mod settling;

@@ -1,27 +1,28 @@
 // The orders of operators.
-ghost use Rattle.std.specs.Prelude.{◌≡◌, ◌+◌, ◌<◌, ◌≤◌, [], ◌∷◌, ◌++◌, None, IfOk, OnOk, OnErr, find, insert, length, option_map, max};
+ghost use Rattle.std.specs.Prelude.{◌≡◌, ◌+◌, ◌<◌, ◌≤◌, [], ◌∷◌, ◌++◌, None, IfOk, OnOk, OnErr, find, insert, length, option_map};
 ghost use Rattle.std.specs.Option.{option_copied};
 ghost use Rattle.request_log.specs.Entries.{changed, has_id, mark, replace, IsNew, with_call};
-ghost use Rattle.create_placement.specs.Placement.{created, place_between};
+ghost use Rattle.create_placement.specs.Placement.{created};
 ghost use Rattle.service_events.specs.Calls.{noted};
-ghost use Rattle.service_events.specs.Orders.{carried_out, entry_of, hold_on, released_post, request_of, unless_held, unless_present, unless_replaced};
+ghost use Rattle.service_events.specs.Orders.{carried_out, entry_of, hold_on, made_under, place_made, released_post, request_of, unless_held, unless_present, unless_replaced};
+ghost use Rattle.service_events.specs.State.{next_id, program_for};
 ghost use Rattle.service_parts.specs.Parts.{kept, whole_log};
 ghost use Rattle.service_parts.specs.Rooms.{aloft};
 ghost use Rattle.service_parts.specs.Drafts.{TellNoCall};
 ghost use Rattle.service_repairs.specs.Ordering.{MayOrder, allowed_rows, made_rows};
-ghost use Rattle.service_repairs.specs.Resolving.{put_request, resolved};
+ghost use Rattle.service_repairs.specs.Resolving.{creation_of, put_request, resolved};
 
 use crate::folding::fold;
-use crate::resolving::{Put, Resolved, put_like, request_of};
+use crate::programs::{correct, deploy};
+use crate::resolving::{Created, Put, Resolved, put_like, request_of};
 use create_placement::place;
 use journal_rows::{AskedRow, Command, OrderedRow, Row};
 use lang_base::both;
 use lang_core::{Copied, Inputs, Method, NoMemory, Origin, Request, Seq, Shared, Text};
-use local_repair::Repairer;
 use repair_messages::{PostName, copied_pair};
-use request_log::{Entry, KeptEntry, Log};
+use request_log::KeptEntry;
 use service_parts::{
-    Parts, created, insert, next_id, next_in, push_rows, reserve, rewrite, set_struck,
+    Parts, created, insert, next_id, program_for, push_rows, reserve, rewrite, set_struck,
 };
 use std::alloc::Global;
 
@@ -116,16 +117,23 @@ fn ordered(
     Row::ordered(alloc, row)
 }
 
-fn asked(alloc: Global, id: u64, request: &Request, inputs: Inputs) -> Result<Row, NoMemory>
-    ensures { IfOk result (λ row. row ≡ Row.Asked (record { id = id; origin = Origin.Outside; request = request.now; inputs = inputs })) }
+fn asked(alloc: Global, id: u64, created: Created<'_>, inputs: Inputs) -> Result<Row, NoMemory>
+    ensures { IfOk result (λ row. row ≡ Row.Asked (record {
+      id = id;
+      origin = Origin.Outside;
+      request = created.request.now;
+      inputs = inputs;
+      program = created.program;
+    })) }
 {
-    let request = Shared::copy_of(alloc, request);
+    let request = Shared::copy_of(alloc, created.request);
     let (request, inputs) = both(request, Shared::new(alloc, inputs))?;
     Ok(Row::Asked(AskedRow {
         id,
         origin: Origin::Outside,
         request,
         inputs,
+        program: created.program,
     }))
 }
 
@@ -133,15 +141,15 @@ fn asked(alloc: Global, id: u64, request: &Request, inputs: Inputs) -> Result<Ro
 fn push_asked(
     alloc: Global,
     parts: &Parts,
-    created: Option<&Request>,
+    created: &Option<Created<'_>>,
     inputs: Inputs,
     rows: &mut Vec<Row>,
 ) -> Result<(), NoMemory>
-    ensures { OnOk result (rows.new.items ≡ rows.old.items ++ made_rows (kept parts.now) (option_copied created.entry) inputs) }
+    ensures { OnOk result (rows.new.items ≡ rows.old.items ++ made_rows (kept parts.now) (option_map creation_of created.now) inputs) }
 {
     match created {
-        Some(request) => {
-            rows.push(asked(alloc, next_id(parts), request, inputs)?)?;
+        Some(created) => {
+            rows.push(asked(alloc, next_id(parts), *created, inputs)?)?;
             Ok(())
         }
         None => Ok(()),
@@ -163,44 +171,55 @@ pub(crate) fn order_rows(
     let row = ordered(alloc, order, token, who, rule)?;
     let mut rows = Vec::new(alloc);
     rows.push(row)?;
-    push_asked(alloc, parts, order.created, inputs, &mut rows)?;
+    push_asked(alloc, parts, &order.created, inputs, &mut rows)?;
     Ok(rows)
 }
 
 // ---- what it does
 
-fn created_entry(
+// The entry of a request that is to have been made at this place, counted from 0 behind the folded entries.
+fn entry_at(
     alloc: Global,
-    id: u64,
+    parts: &Parts,
+    at: u64,
     request: Request,
     inputs: Inputs,
 ) -> Result<KeptEntry, NoMemory>
-    ensures { IfOk result (λ entry. entry ≡ created id request inputs) }
+    ensures { IfOk result (λ entry. entry ≡ created (next_id (kept parts.now)) request inputs (program_for (kept parts.now) (length parts.now.repairer.folded + at))) }
 {
     let request = Shared::new(alloc, request);
-    let (request, inputs) = both(request, Shared::new(alloc, inputs))?;
-    KeptEntry::of(alloc, created(alloc, id, request, inputs))
+    let asked = both(request, Shared::new(alloc, inputs));
+    let program = program_for(parts, at).copied(alloc);
+    let (program, (request, inputs)) = both(program, asked)?;
+    KeptEntry::of(
+        alloc,
+        created(alloc, next_id(parts), request, inputs, program),
+    )
 }
 
-// Makes an entry of a request that is to have been made, at its place among the others, behind the folded ones. Refused, the log
-// stays.
+// Makes an entry of a request that is to have been made, at its place among the others, behind the folded ones, under the program
+// of that place. Refused, nothing changes.
 fn create(
     alloc: Global,
-    repairer: &mut Repairer,
+    parts: &mut Parts,
     before: Option<u64>,
     after: Option<u64>,
     request: Request,
     inputs: Inputs,
 ) -> Result<(), NoMemory>
-    requires is_new { find (has_id (length (whole_log repairer.old) + 1)) (whole_log repairer.old) ≡ None }
-    ensures ok { OnOk result (whole_log repairer.new ≡ insert (whole_log repairer.old) (max (length repairer.old.folded) (place_between before after (whole_log repairer.old))) (created (length (whole_log repairer.old) + 1) request inputs)) }
-    ensures folded { repairer.new.folded ≡ repairer.old.folded }
-    ensures base { repairer.new.base ≡ repairer.old.base }
-    ensures err { OnErr result (repairer.new ≡ repairer.old) }
+    requires is_new { find (has_id (next_id (kept parts.old))) (whole_log parts.old.repairer) ≡ None }
+    ensures ok { OnOk result (kept parts.new ≡ record (kept parts.old) {
+      entries =
+          insert (whole_log parts.old.repairer) (place_made (kept parts.old) before after)
+          (created (next_id (kept parts.old)) request inputs (made_under (kept parts.old) before after));
+    }) }
+    ensures err { OnErr result (kept parts.new ≡ kept parts.old) }
+    ensures journal { parts.new.journal ≡ parts.old.journal }
+    ensures flights { parts.new.flights ≡ parts.old.flights }
 {
-    let at = place(repairer.log(), before, after);
-    let entry = created_entry(alloc, next_in(repairer.log()), request, inputs)?;
-    insert(repairer, at, entry)
+    let at = place(parts.repairer.log(), before, after);
+    let entry = entry_at(alloc, parts, at, request, inputs)?;
+    insert(&mut parts.repairer, at, entry)
 }
 
 // Sets whether the entry of a number is struck, which is there and isn't folded.
@@ -280,7 +299,7 @@ fn carry_out(
     ensures ok { OnOk result (kept parts.new ≡ carried_out (kept parts.old) command who inputs) }
     ensures err { OnErr result (kept parts.new ≡ kept parts.old) }
     ensures journal { parts.new.journal ≡ parts.old.journal }
-    ensures flights { parts.new.flights ≡ parts.old.flights }
+    ensures aloft { aloft parts.new.flights.list ≡ aloft parts.old.flights.list }
 {
     match command {
         Command::Cancel(id) => {
@@ -301,12 +320,18 @@ fn carry_out(
             before,
             after,
             request,
-        } => create(alloc, &mut parts.repairer, before, after, request, inputs),
+        } => create(alloc, parts, before, after, request, inputs),
         Command::Retry(name) => {
             release(parts, name, who);
             Ok(())
         }
         Command::Fold(id) => fold(alloc, parts, id),
+        Command::Deploy(text) => deploy(alloc, parts, &text),
+        Command::Correct(number, text) => correct(alloc, parts, number, &text),
+        Command::Rules(given) => {
+            parts.rules = given;
+            Ok(())
+        }
     }
 }
 

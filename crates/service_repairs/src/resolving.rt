@@ -1,12 +1,14 @@
 // What an operator's command comes to in a service: all that is asked of it before it is carried out, answered once.
-ghost use Rattle.std.specs.Prelude.{◌≡◌, None, Some, option_map};
+ghost use Rattle.std.specs.Prelude.{◌≡◌, ◌+◌, None, Some, option_map};
 ghost use Rattle.std.specs.Option.{option_copied};
 ghost use Rattle.request_log.specs.Entries.{with_call};
+ghost use Rattle.journal_rows.specs.Programs.{is_number, program_count};
 ghost use Rattle.service_events.specs.State.{next_id};
-ghost use Rattle.service_events.specs.Orders.{entry_of, hold_on, request_of, request_retried, subject, unless_held, unless_outside, unless_past, unless_present, unless_replaced};
+ghost use Rattle.service_events.specs.Orders.{entry_of, hold_on, made_under, request_of, request_retried, subject, unless_held, unless_numbered, unless_outside, unless_past, unless_present, unless_replaced};
 ghost use Rattle.service_parts.specs.Parts.{kept};
-ghost use Rattle.service_repairs.specs.Resolving.{put_request, resolution, resolved};
+ghost use Rattle.service_repairs.specs.Resolving.{creation_of, put_request, resolution, resolved};
 
+use crate::programs::{made_under, next_program};
 use call_registers::Hold;
 use journal_rows::{About, Command};
 use lang_core::{Method, Origin, Request, Text};
@@ -21,6 +23,13 @@ pub(crate) struct Put<'a> {
     pub(crate) method: Method,
     pub(crate) path: &'a Text,
     pub(crate) body: &'a Text,
+}
+
+/// The entry that a command makes: its request, and the number of the program under which it runs.
+#[derive(Clone, Copy, Drop)]
+pub(crate) struct Created<'a> {
+    pub(crate) request: &'a Request,
+    pub(crate) program: u64,
 }
 
 /// A command, with the answers to all that is asked of it.
@@ -38,8 +47,8 @@ pub(crate) struct Resolved<'a> {
     pub(crate) original: Option<&'a Request>,
     /// The request that it puts in place of that, or as a new entry.
     pub(crate) put: Option<Put<'a>>,
-    /// The request of the entry that it makes.
-    pub(crate) created: Option<&'a Request>,
+    /// The entry that it makes.
+    pub(crate) created: Option<Created<'a>>,
 }
 
 // ---- why it can't be about what it names
@@ -124,6 +133,24 @@ fn unless_held(parts: &Parts, name: PostName) -> Option<OrderRefused>
     match hold_on(parts, name) {
         None => Some(OrderRefused::NotHeld),
         Some(_) => None,
+    }
+}
+
+// Whether there is a program of this number.
+fn is_number(parts: &Parts, number: u64) -> bool
+    ensures { result ≡ is_number number parts.now.journal.rows }
+{
+    1 <= number && number <= parts.journal.programs()
+}
+
+// A correction is of a program that there is, also where nothing runs under it any more.
+fn unless_numbered(parts: &Parts, number: u64) -> Option<OrderRefused>
+    ensures { result ≡ unless_numbered number (kept parts.now) }
+{
+    if is_number(parts, number) {
+        None
+    } else {
+        Some(OrderRefused::NoSuchProgram(number))
     }
 }
 
@@ -247,7 +274,28 @@ fn replacing<'a>(
     }
 }
 
-fn creating<'a>(parts: &'a Parts, command: &'a Command, request: &'a Request) -> Resolved<'a>
+// The entry of a request that is to have been made, under the program of its place.
+fn entry_made<'a>(
+    parts: &'a Parts,
+    before: Option<u64>,
+    after: Option<u64>,
+    request: &'a Request,
+) -> Created<'a>
+    ensures { creation_of result ≡ record { request = request.now; program = (made_under (kept parts.now) before after).number } }
+{
+    Created {
+        request,
+        program: made_under(parts, before, after).get().number(),
+    }
+}
+
+fn creating<'a>(
+    parts: &'a Parts,
+    command: &'a Command,
+    before: Option<u64>,
+    after: Option<u64>,
+    request: &'a Request,
+) -> Resolved<'a>
     ensures { resolved result ≡ record {
       command = command.now;
       misnamed = None;
@@ -256,7 +304,7 @@ fn creating<'a>(parts: &'a Parts, command: &'a Command, request: &'a Request) ->
       subject = None;
       original = None;
       repaired = Some request.now;
-      created = Some request.now;
+      created = Some (record { request = request.now; program = (made_under (kept parts.now) before after).number });
     } }
 {
     Resolved {
@@ -267,7 +315,7 @@ fn creating<'a>(parts: &'a Parts, command: &'a Command, request: &'a Request) ->
         subject: None,
         original: None,
         put: Some(put_whole(request)),
-        created: Some(request),
+        created: Some(entry_made(parts, before, after, request)),
     }
 }
 
@@ -319,6 +367,60 @@ fn folding<'a>(parts: &'a Parts, command: &'a Command, id: u64) -> Resolved<'a>
     }
 }
 
+// One that brings a program, which may be refused so. It is about the number that the program gets.
+fn programming<'a>(
+    parts: &'a Parts,
+    command: &'a Command,
+    misnamed: Option<OrderRefused>,
+    kind: Kind,
+) -> Resolved<'a>
+    ensures { resolved result ≡ record {
+      command = command.now;
+      misnamed = misnamed;
+      kind = kind;
+      about = About.Program (program_count parts.now.journal.rows + 1);
+      subject = None;
+      original = None;
+      repaired = None;
+      created = None;
+    } }
+{
+    Resolved {
+        command,
+        misnamed,
+        kind,
+        about: About::Program(next_program(parts)),
+        subject: None,
+        original: None,
+        put: None,
+        created: None,
+    }
+}
+
+fn ruling(command: &Command) -> Resolved<'_>
+    ensures { resolved result ≡ record {
+      command = command.now;
+      misnamed = None;
+      kind = Kind.Rules;
+      about = About.Rules;
+      subject = None;
+      original = None;
+      repaired = None;
+      created = None;
+    } }
+{
+    Resolved {
+        command,
+        misnamed: None,
+        kind: Kind::Rules,
+        about: About::Rules,
+        subject: None,
+        original: None,
+        put: None,
+        created: None,
+    }
+}
+
 /// What a command comes to as the service stands now.
 pub(crate) fn resolve<'a>(parts: &'a Parts, command: &'a Command) -> Resolved<'a>
     ensures { resolved result ≡ resolution (kept parts.now) command.now }
@@ -332,8 +434,18 @@ pub(crate) fn resolve<'a>(parts: &'a Parts, command: &'a Command) -> Resolved<'a
             path,
             body,
         } => replacing(parts, command, *id, *method, path, body),
-        Command::Create { request, .. } => creating(parts, command, request),
+        Command::Create {
+            before,
+            after,
+            request,
+        } => creating(parts, command, *before, *after, request),
         Command::Retry(name) => retrying(parts, command, *name),
         Command::Fold(id) => folding(parts, command, *id),
+        Command::Deploy(_) => programming(parts, command, None, Kind::Deploy),
+        Command::Correct(number, _) => {
+            let misnamed = unless_numbered(parts, *number);
+            programming(parts, command, misnamed, Kind::Correct)
+        }
+        Command::Rules(_) => ruling(command),
     }
 }

@@ -23,7 +23,9 @@ fn take_book(alloc: Global, parts: &mut Parts) -> Book
     requires { aloft parts.old.flights.list ≤ parts.old.journal.spare }
     ensures book { result ≡ book_of (kept parts.old) }
     ensures setting { parts.new.setting ≡ parts.old.setting }
+    ensures began { parts.new.began ≡ parts.old.began }
     ensures rules { parts.new.rules ≡ parts.old.rules }
+    ensures newest { parts.new.newest ≡ parts.old.newest }
     ensures entries { parts.new.repairer ≡ parts.old.repairer }
 {
     let journal = std::mem::replace(&mut parts.journal, Rows::new(alloc));

@@ -7,6 +7,7 @@ use Rattle.lang_core.specs.declared.trace.Trace.{Trace}
 use Rattle.handler_run.specs.declared.state.Ran.{Ran}
 use Rattle.request_log.specs.Entries.{has_id, find_call, IsNew}
 use Rattle.journal_rows.specs.declared.row.Row.{Row}
+use Rattle.journal_rows.specs.declared.row.Row.TheVariants.{Asked}
 use Rattle.call_registers.specs.Registers.{next_number}
 use Rattle.call_registers.specs.Replies.{IsAboveAll}
 use Rattle.call_registers.specs.declared.reply.Reply.{Reply}
@@ -17,7 +18,7 @@ use Rattle.flights.specs.declared.flight.Move.{Move}
 use Rattle.flights.specs.declared.flight.Move.TheVariants.{Commit, Name, Change}
 use Rattle.service_events.specs.State.{Kept, After, after, me, next_id, unfolded}
 use Rattle.service_events.specs.Calls.{noted, named}
-use Rattle.service_events.specs.Flying.{before_answer, live_answer, answer_to_caller, with_slot, with_change, change_rows, waits, untold, wanted_of}
+use Rattle.service_events.specs.Flying.{before_answer, live_answer, took_rows, answer_to_caller, with_slot, with_change, change_rows, waits, untold, wanted_of}
 use Rattle.service_events.specs.declared.answers.Arrived.{Arrived}
 use Rattle.service_events.specs.declared.answers.Arrived.TheVariants.{Done, Call}
 use Rattle.service_requests.specs.declared.endings.Ending.{Ending}
@@ -45,6 +46,12 @@ reply_of s index (Called caller number) =
       repair_who = me s;
       since = index;
     })
+
+-- the rows of a flight's request: that it was asked, under which program, and that it was taken where it is a call
+abbrev pub asked_rows : Kept → Flight → List Row
+asked_rows s f =
+    Asked (record { id = next_id s; origin = f.origin; request = f.request; inputs = f.inputs; program = f.program.number })
+    ∷ took_rows f.origin f.request
 
 -- a service with the rows of a commit
 abbrev pub commit_noted : Kept → Flight → Trace → Kept

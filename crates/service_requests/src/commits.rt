@@ -4,7 +4,7 @@ ghost use Rattle.service_events.specs.Flying.{live_version, took_rows, surplus_r
 ghost use Rattle.service_events.specs.Calls.{noted};
 ghost use Rattle.service_events.specs.State.{next_id};
 ghost use Rattle.service_parts.specs.Drafts.{with_draft};
-ghost use Rattle.service_requests.specs.Endings.{ends, CanEnd, MayEnd, reply_of, commit_noted};
+ghost use Rattle.service_requests.specs.Endings.{ends, CanEnd, MayEnd, asked_rows, reply_of, commit_noted};
 ghost use Rattle.service_parts.specs.Parts.{kept};
 
 use crate::endings::Ending;
@@ -14,7 +14,7 @@ use journal_rows::{AnsweredRow, AskedRow, Row, TookHow, TookRow};
 use lang_base::both;
 use lang_core::{Copied, Name, NoMemory, Origin, Request, Shared, ThinSeq, Trace};
 use repair_messages::copied_pair;
-use request_log::{Entry, KeptEntry, Made, Numbers};
+use request_log::{Entry, KeptEntry, Made, Numbers, Under};
 use service_parts::{Draft, Parts, drafted, next_id, next_index, note, note_row, push_deleted};
 use std::alloc::Global;
 
@@ -71,7 +71,13 @@ fn push_took(
 }
 
 fn asked(alloc: Global, id: u64, flight: &Flight) -> Result<Row, NoMemory>
-    ensures { IfOk result (λ row. row ≡ Row.Asked (record { id = id; origin = flight.now.origin; request = flight.now.request; inputs = flight.now.inputs })) }
+    ensures { IfOk result (λ row. row ≡ Row.Asked (record {
+      id = id;
+      origin = flight.now.origin;
+      request = flight.now.request;
+      inputs = flight.now.inputs;
+      program = flight.now.program.number;
+    })) }
 {
     let asked = copied_pair(alloc, &flight.request, &flight.inputs);
     let (origin, asked) = both(flight.origin.copied(alloc), asked)?;
@@ -80,6 +86,7 @@ fn asked(alloc: Global, id: u64, flight: &Flight) -> Result<Row, NoMemory>
         origin,
         request: asked.0,
         inputs: asked.1,
+        program: flight.program.get().number(),
     }))
 }
 
@@ -109,16 +116,14 @@ fn surplus_rows(
     Ok(rows)
 }
 
-// Puts the rows of the request last: that it was asked, and that it was taken where it is a call.
+// Puts the rows of the request last: that it was asked, under which program, and that it was taken where it is a call.
 fn push_asked(
     alloc: Global,
     parts: &Parts,
     flight: &Flight,
     rows: &mut Vec<Row>,
 ) -> Result<(), NoMemory>
-    ensures { OnOk result (rows.new.items ≡ rows.old.items
-        ++ (Row.Asked (record { id = next_id (kept parts.now); origin = flight.now.origin; request = flight.now.request; inputs = flight.now.inputs })
-        ∷ took_rows flight.now.origin flight.now.request)) }
+    ensures { OnOk result (rows.new.items ≡ rows.old.items ++ asked_rows (kept parts.now) flight.now) }
 {
     let row = asked(alloc, next_id(parts), flight)?;
     rows.push(row)?;
@@ -204,6 +209,7 @@ fn committed_entry(
         wanted: true,
         struck: false,
         inputs: flight.inputs,
+        under: Under::of(flight.program),
         made: Some(made),
         slots,
         answer_version: 1,

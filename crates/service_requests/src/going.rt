@@ -46,7 +46,7 @@ fn known_who(alloc: Global, parts: &Parts, request: &mut Request)
     }
 }
 
-/// The flight of a live request that arrives.
+/// The flight of a live request that arrives, which is under the newest program.
 pub(crate) fn new_flight(
     alloc: Global,
     parts: &Parts,
@@ -58,12 +58,14 @@ pub(crate) fn new_flight(
 {
     known_who(alloc, parts, &mut request);
     let request = Shared::new(alloc, request);
-    let (request, inputs) = both(request, Shared::new(alloc, inputs))?;
+    let program = parts.newest.copied(alloc);
+    let (program, (request, inputs)) = both(program, both(request, Shared::new(alloc, inputs)))?;
     Ok(Flight {
         id: parts.flights.free_number(),
         origin,
         request,
         inputs,
+        program,
         calls: Seq::new(alloc),
         numbers: Seq::new(alloc),
         changes: 0,

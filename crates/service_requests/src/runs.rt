@@ -37,7 +37,7 @@ fn answers_of(
     Ok(answers)
 }
 
-/// Runs a flight on the rows at the end of the log, with the answers that its calls consume in the draft.
+/// Runs a flight under its program on the rows at the end of the log, with the answers that its calls consume in the draft.
 pub(crate) fn run_flight(
     alloc: Global,
     parts: &Parts,
@@ -48,7 +48,16 @@ pub(crate) fn run_flight(
 {
     let answers = answers_of(alloc, parts, draft, flight.numbers.as_slice())?;
     let rows = parts.repairer.end();
+    let program = flight.program.get().program();
     let request = flight.request.get();
     let inputs = flight.inputs.get();
-    run(alloc, &parts.setting, request, inputs, &answers, &rows)
+    run(
+        alloc,
+        &parts.setting,
+        program,
+        request,
+        inputs,
+        &answers,
+        &rows,
+    )
 }
