@@ -140,6 +140,7 @@ act_same consumed e =
       struck = e.struck;
       request = e.request;
       inputs = e.inputs;
+      program = e.under.now.program;
       numbers = e.slots;
       answers = map consumed e.slots;
       did = did;

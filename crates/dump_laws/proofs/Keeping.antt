@@ -23,10 +23,11 @@ use Rattle.call_registers.specs.declared.register.Register.{Register}
 use Rattle.service_events.specs.Fits.{Fits, NumberedCalls, WantsItsCalls, calls_of_entry, calls_of_flight, count, places, times_held, wanted_call}
 use Rattle.service_events.specs.State.{Kept, answers, base, folded, me, unfolded}
 use Rattle.world_agreement.specs.Partners.{NamesDiffer}
-use Rattle.dump_tables.specs.Kept.{AreApart, AreKept, IsKept, IsSent, IsWhole, call_behind, calls_behind, numbers_of, service_name}
+use Rattle.dump_tables.specs.Kept.{AreApart, AreKept, IsKept, IsSent, IsUnder, IsWhole, call_behind, calls_behind, numbers_of, service_name}
 use Rattle.dump_tables.specs.declared.dump.DumpEntry.{DumpEntry}
 use Rattle.dump_tables.specs.declared.dump.DumpService.{DumpService}
 use Rattle.dump_laws.specs.Dumped.{dumped, dumped_all, dumped_entry}
+use Rattle.dump_laws.proofs.Programs.{HasItsProgram, each_there, there_numbered}
 
 -- ---- names of services
 
@@ -190,11 +191,13 @@ service_kept s fits sent =
     let wants = recursion_from_All (WantsItsCalls s.registers) (places s) fits.places.calls in
     record {
       weight = refl;
+      first = refl;
       ids = ids_apart (answers s) s.entries fits.asked.distinct;
       callers = callers_apart (answers s) s.entries fits.asked.distinct;
       numbers = numbers_apart s fits;
       rows = rows_ordered (unfolded s) (base s) (kept_ordered s.setting (folded s) (base s) fits.horizon.replayed);
       entries = wholes s s.entries (front_all (WantsItsCalls s.registers) (map calls_of_entry s.entries) (map calls_of_flight s.flights) wants) sent;
+      under = mapped_over (dumped_entry (answers s)) (HasItsProgram s) (IsUnder (dumped s).programs) (λ e there. there_numbered s e.under.now.number e.under.now.program there) s.entries (each_there s fits);
     }
 
 services_kept : (services : List Kept) → AllByRecursion Fits services → AllByRecursion (λ (s : Kept). AllByRecursion (AreSent (me s)) s.entries) services → AllByRecursion IsKept (dumped_all services)

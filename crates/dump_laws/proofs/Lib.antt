@@ -3,6 +3,7 @@ pub mod Texts
 pub mod Names
 pub mod Parts
 pub mod Lines
+pub mod Programs
 pub mod Spelling
 pub mod Histories
 pub mod Keeping

@@ -22,13 +22,13 @@ use Rattle.report_text.specs.Reports as report
 use Rattle.report_text.specs.Reports.{escaped_key, key_byte}
 use Rattle.dump_lines.specs.Dumps.{digit_of, names_text, origin_text}
 use Rattle.dump_tables.specs.declared.dump.DumpEntry.{DumpEntry}
-use Rattle.dump_words.specs.Lines.{answer_at, call_at, call_of, cut_call, cut_inputs, cut_request, cut_standing, entry_at, entry_of, is_none, peers_at, program_at, program_of, programmed, reply_at, request_at, request_of, response_at, row_at, row_of, service_at, shaped, words_at}
+use Rattle.dump_words.specs.Lines.{answer_at, call_at, call_of, cut_call, cut_inputs, cut_request, cut_standing, entry_at, entry_of, is_none, peers_at, program_at, program_of, programmed, reply_at, request_at, request_of, response_at, row_at, row_of, service_at, shaped, under_at, words_at}
 use Rattle.dump_words.specs.Parts.{alone, at_end, body_behind, cut_at, in_u16, key_part, name_part, names_part, origin_part, path_part, table_part, who_part, with_part, with_word}
 use Rattle.dump_words.specs.declared.line.Line.{Line}
-use Rattle.dump_words.specs.declared.line.Line.TheVariants.{Service, Peers, Program, Entry, Call, Answer, Reply, Row, End}
+use Rattle.dump_words.specs.declared.line.Line.TheVariants.{Service, Peers, Program, Entry, Under, Call, Answer, Reply, Row, End}
 use Rattle.dump_reader.specs.Spelled.{call_line, entry_line}
-use Rattle.dump_laws.specs.Forms.{AreInputs, IsCallMade, IsCell, IsDumpEntry, IsFromOne, IsRequest, IsResponse}
-use Rattle.dump_laws.proofs.Words.{all_both, all_next, cut_last, cut_word, digits, digits_lack_feeds, digits_lack_spaces, lacks, last_word, one_word, part_is, status_reads}
+use Rattle.dump_laws.specs.Forms.{AreInputs, IsCallMade, IsCell, IsDumpEntry, IsFromOne, IsNumber, IsRequest, IsResponse}
+use Rattle.dump_laws.proofs.Words.{all_both, all_next, cut_last, cut_word, digits, digits_lack_feeds, digits_lack_spaces, lacks, last_word, number_reads, one_word, part_is, status_reads}
 use Rattle.dump_laws.proofs.Texts.{behind, behind_one_line, body_behind_reads, cut_before, key_one_line, key_one_word, key_part_reads, text_reads, word_before}
 use Rattle.dump_laws.proofs.Names.{flag_word, method_is_word, name_reads, name_word, names_read, names_word, origin_reads, origin_word, other_text, path_reads, path_word, table_bytes, table_reads, table_word, who_reads, who_word}
 use Rattle.dump_laws.proofs.Parts.{call_cut, eight, inputs_cut, request_cut, standing_cut}
@@ -177,6 +177,23 @@ entry_is e is = record {
   one = all_both (lacks 10) (codes "entry ") (entry_words e) refl (entry_one_line e is);
   says = by_word (codes "entry") (entry_words e) (Entry (entry_line e)) refl (entry_said (Some (entry_words e)) ∙ ap shaped (entry_read e is));
 }
+
+-- ---- `under`
+
+under_words : (rest : Rest) → words_at (codes "under") rest ≡ shaped (under_at rest)
+unfolding words_at
+under_words rest = refl
+
+pub under_is : (number : ℕ) → IsNumber number → IsLine (codes "under " ++ decimal number) (Under number)
+under_is number is =
+    let word = decimal number in
+    let read : under_at (Some word) ≡ Some (Under number) =
+    part_is (alone (Some word)) word (λ word. with_part (number_of word) (λ n. Some (Under n))) (alone_is word (digits_lack_spaces number is))
+    ∙ part_is (number_of word) number (λ n. Some (Under n)) (number_reads number is) in
+    record {
+      one = all_both (lacks 10) (codes "under ") word refl (digits_lack_feeds number is);
+      says = by_word (codes "under") word (Under number) refl (under_words (Some word) ∙ ap shaped read);
+    }
 
 -- ---- `call`
 

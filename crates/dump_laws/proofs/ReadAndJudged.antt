@@ -1,5 +1,5 @@
 -- The dump of services that are one legal execution is read, and judged legal.
-use Rattle.std.proofs.Common.{◌≡◌, ℕ, zero, suc, ◌<◌, true, List, [], ◌∷◌, map, length, sym, ap, ◌∙◌, arith}
+use Rattle.std.proofs.Common.{◌≡◌, ℕ, zero, suc, ◌<◌, true, List, [], ◌∷◌, map, length, sym, ap, ◌∙◌, subst, arith}
 use Rattle.std.specs.Prelude.{All, Contains, slice_index_or}
 use Rattle.std.specs.List.{AllByRecursion, list_all}
 use Rattle.std.proofs.lemmas.Bool.{and_parts}
@@ -17,6 +17,7 @@ use Rattle.request_log.specs.Records.{record_of, recorded_calls}
 use Rattle.request_log.specs.declared.entry.Entry.{Entry}
 use Rattle.local_repair.specs.Current.{Consumed}
 use Rattle.local_repair.specs.Histories.{act_of}
+use Rattle.service_events.specs.Fits.{Fits}
 use Rattle.service_events.specs.State.{Kept, answers, me}
 use Rattle.world_agreement.specs.Legal.{histories, history}
 use Rattle.world_agreement.specs.Partners.{IsJoined}
@@ -27,12 +28,13 @@ use Rattle.dump_reader.proofs.OnlyLemmas.{read_only}
 use Rattle.dump_lines.specs.Dumps.{dump_text}
 use Rattle.dump_audit.proofs.LegalLaws.{so_legal}
 use Rattle.dump_laws.specs.Dumped.{dumped, dumped_all, dumped_entry}
-use Rattle.dump_laws.specs.Forms.{IsCallMade, IsDumpEntry, IsDumpService, IsFromOne, IsNumber, IsOrigin, IsResponse, IsSetting, IsWritten, IsWrittenEntry, IsWrittenOrigin}
+use Rattle.dump_laws.specs.Forms.{IsCallMade, IsDumpEntry, IsDumpService, IsFromOne, IsNumber, IsOrigin, IsProgram, IsResponse, IsSetting, IsWritten, IsWrittenEntry, IsWrittenOrigin}
 use Rattle.dump_laws.specs.Law.{CanBeRead, IsReadAsLegal}
 use Rattle.dump_laws.proofs.Histories.{dump_legal}
 use Rattle.dump_laws.proofs.Keeping.{AreSent, dump_kept}
 use Rattle.dump_laws.proofs.Numbered.{CountsFromOne, IsNumberedEntry, all_numbered}
-use Rattle.dump_laws.proofs.Recorded.{AllRespondWell, IsRecorded, consumed_short, entries_recorded, responses_short, rows_short}
+use Rattle.dump_laws.proofs.Programs.{HasFormed, each_formed, programs_are}
+use Rattle.dump_laws.proofs.Recorded.{AllRespondWell, IsFormed, IsRecorded, consumed_short, entries_recorded, responses_short, rows_short}
 use Rattle.dump_laws.proofs.RunLimits.{IsShortCall}
 use Rattle.dump_laws.proofs.Spelling.{dump_spells}
 
@@ -72,6 +74,7 @@ entry_form s consumed e setting written numbered recorded answered = record {
   version = written.version;
   inputs = written.inputs;
   request = written.request;
+  under = written.under;
   numbers = ones e.slots written.slots numbered.slots;
   calls = calls_made s.me s.peers e.request (recorded_calls (record_of e)) setting.peers recorded.onward recorded.calls;
   answers = answered;
@@ -99,38 +102,47 @@ ReplaysAlone h = Replays h.setting [] h.acts h.rows
 abbrev AreServedIn : List History → History → Type 0
 AreServedIn world h = All (CallsAreServed world h) h.acts
 
-recorded_in : (s : Kept) → IsWritten s → ReplaysAlone (history s) → AllByRecursion (IsRecorded s.setting) s.entries
-recorded_in s written r = entries_recorded s.setting [] (answers s) s.entries r.traces (history s).rows written.setting.formed r.replay
+-- each request of its history runs under a program of the language's form
+acts_formed : (consumed : Consumed) (entries : List Entry) → AllByRecursion HasFormed entries → AllByRecursion IsFormed (map (act_of consumed) entries)
+acts_formed consumed [] formed = tt
+acts_formed consumed (e ∷ entries) formed = (formed.0, acts_formed consumed entries formed.1)
 
-service_form : (world : List History) → AllByRecursion AllRespondWell world → (s : Kept) → IsWritten s → All IsNumberedEntry s.entries → ReplaysAlone (history s) → AreServedIn world (history s) → IsDumpService (dumped s)
-service_form world well s written numbered r served =
+formed_in : (s : Kept) → Fits s → IsWritten s → AllByRecursion IsFormed (history s).acts
+formed_in s fits written = acts_formed (answers s) s.entries (each_formed s fits written)
+
+recorded_in : (s : Kept) → Fits s → IsWritten s → ReplaysAlone (history s) → AllByRecursion (IsRecorded s.setting) s.entries
+recorded_in s fits written r = entries_recorded s.setting [] (answers s) s.entries r.traces (history s).rows (each_formed s fits written) r.replay
+
+service_form : (world : List History) → AllByRecursion AllRespondWell world → (s : Kept) → Fits s → IsWritten s → All IsNumberedEntry s.entries → ReplaysAlone (history s) → AreServedIn world (history s) → IsDumpService (dumped s)
+service_form world well s fits written numbered r served =
     let set = written.setting in
     let each = recursion_from_All (CallsAreServed world (history s)) (history s).acts served in
     record {
-      setting = record { me = set.me; peers = set.peers; formed = set.formed; held = set.held; short = set.short };
-      entries = entry_forms s.setting (answers s) s.entries set written.entries (recursion_from_All IsNumberedEntry s.entries numbered) (recorded_in s written r)
+      setting = record { me = set.me; peers = set.peers; program = set.program };
+      later = (subst (AllByRecursion IsProgram) (programs_are s) written.programs).1;
+      entries = entry_forms s.setting (answers s) s.entries set written.entries (recursion_from_All IsNumberedEntry s.entries numbered) (recorded_in s fits written r)
           (consumed_short world well (history s) [] (history s).acts r.traces (history s).rows each r.replay);
-      rows = rows_short s.setting [] (history s).acts r.traces (history s).rows set.formed tt r.replay;
+      rows = rows_short s.setting [] (history s).acts r.traces (history s).rows (formed_in s fits written) tt r.replay;
     }
 
 abbrev IsNumberedService : Kept → Type 0
 IsNumberedService s = All IsNumberedEntry s.entries
 
-service_forms : (world : List History) → AllByRecursion AllRespondWell world → (services : List Kept) → AllByRecursion IsWritten services → AllByRecursion IsNumberedService services
+service_forms : (world : List History) → AllByRecursion AllRespondWell world → (services : List Kept) → AllByRecursion Fits services → AllByRecursion IsWritten services → AllByRecursion IsNumberedService services
     → AllByRecursion ReplaysAlone (histories services) → AllByRecursion (AreServedIn world) (histories services) → AllByRecursion IsDumpService (dumped_all services)
-service_forms world well [] written numbered replay served = tt
-service_forms world well (s ∷ services) written numbered replay served =
-    (service_form world well s written.0 numbered.0 replay.0 served.0, service_forms world well services written.1 numbered.1 replay.1 served.1)
+service_forms world well [] fits written numbered replay served = tt
+service_forms world well (s ∷ services) fits written numbered replay served =
+    (service_form world well s fits.0 written.0 numbered.0 replay.0 served.0, service_forms world well services fits.1 written.1 numbered.1 replay.1 served.1)
 
-services_sent : (services : List Kept) → AllByRecursion IsWritten services → AllByRecursion ReplaysAlone (histories services) → AllByRecursion (λ (s : Kept). AllByRecursion (AreSent (me s)) s.entries) services
-services_sent [] written replay = tt
-services_sent (s ∷ services) written replay = (entries_sent s.setting s.entries (recorded_in s written.0 replay.0), services_sent services written.1 replay.1)
+services_sent : (services : List Kept) → AllByRecursion Fits services → AllByRecursion IsWritten services → AllByRecursion ReplaysAlone (histories services) → AllByRecursion (λ (s : Kept). AllByRecursion (AreSent (me s)) s.entries) services
+services_sent [] fits written replay = tt
+services_sent (s ∷ services) fits written replay = (entries_sent s.setting s.entries (recorded_in s fits.0 written.0 replay.0), services_sent services fits.1 written.1 replay.1)
 
-services_respond : (services : List Kept) → AllByRecursion IsWritten services → AllByRecursion ReplaysAlone (histories services) → AllByRecursion AllRespondWell (histories services)
-services_respond [] written replay = tt
-services_respond (s ∷ services) written replay = (
-  responses_short s.setting [] (history s).acts replay.0.traces (history s).rows written.0.setting.formed replay.0.replay,
-  services_respond services written.1 replay.1,
+services_respond : (services : List Kept) → AllByRecursion Fits services → AllByRecursion IsWritten services → AllByRecursion ReplaysAlone (histories services) → AllByRecursion AllRespondWell (histories services)
+services_respond [] fits written replay = tt
+services_respond (s ∷ services) fits written replay = (
+  responses_short s.setting [] (history s).acts replay.0.traces (history s).rows (formed_in s fits.0 written.0) replay.0.replay,
+  services_respond services fits.1 written.1 replay.1,
 )
 
 -- ---- the law
@@ -139,9 +151,10 @@ read_and_legal : (services : List Kept) → CanBeRead services → AllByRecursio
 read_and_legal services can numbered legal =
     let world = histories services in
     let replay = recursion_from_All ReplaysAlone world legal.alone.replayed in
-    let well = services_respond services can.written replay in
-    let forms = service_forms world well services can.written numbered replay (recursion_from_All (AreServedIn world) world legal.served) in
-    let kept = dump_kept services can.fit can.differ (services_sent services can.written replay) in
+    let fits = recursion_from_All Fits services can.fit in
+    let well = services_respond services fits can.written replay in
+    let forms = service_forms world well services fits can.written numbered replay (recursion_from_All (AreServedIn world) world legal.served) in
+    let kept = dump_kept services can.fit can.differ (services_sent services fits can.written replay) in
     record {
       read = read_only (dump_text services) (dumped_all services) kept (dump_spells services forms can.utf8) can.short;
       legal = so_legal (dumped_all services) (dump_legal services legal);

@@ -17,6 +17,7 @@ use Rattle.lang_core.specs.declared.setting.Setting.{Setting}
 use Rattle.lang_core.specs.declared.trace.CallMade.{CallMade}
 use Rattle.lang_core.specs.declared.trace.Trace.{Trace}
 use Rattle.lang_core.specs.declared.writes.Write.{Write}
+use Rattle.handler_run.specs.HandedOn.{with_program}
 use Rattle.handler_run.specs.Laws.{IfDone}
 use Rattle.handler_chains.specs.Onward.{IsOnward, calls_in}
 use Rattle.handler_chains.proofs.OnwardLaws.{calls_onward}
@@ -28,6 +29,7 @@ use Rattle.local_repair.specs.Current.{Consumed}
 use Rattle.local_repair.specs.Histories.{act_of, deed_in}
 use Rattle.dump_laws.specs.Dumped.{reply_in}
 use Rattle.dump_laws.specs.Forms.{IsCell, IsResponse}
+use Rattle.dump_laws.proofs.Programs.{HasFormed}
 use Rattle.dump_laws.proofs.RunLimits.{IsShort, IsShortCall, IsShortTrace, IsShortWrite, runs_short}
 
 -- ---- a trace
@@ -37,18 +39,22 @@ record IsTraceOf (s : Setting) (q : Request) (t : Trace) : Type 0 where
   onward : AllByRecursion (IsOnward s.me s.peers q) t.calls
   short : IsShortTrace t
 
-trace_by : (s : Setting) (rows : List Cell) (a : Act) (t : Trace) (b : Bool) → survives a ≡ b → routes_fit s.program ≡ true → IsPlayed s rows a t → IsTraceOf s a.request t
+-- a request runs under a program whose parts are of the language's form
+abbrev pub IsFormed : Act → Type 0
+IsFormed a = routes_fit a.program ≡ true
+
+trace_by : (s : Setting) (rows : List Cell) (a : Act) (t : Trace) (b : Bool) → survives a ≡ b → IsFormed a → IsPlayed s rows a t → IsTraceOf s a.request t
 trace_by s rows a t true alive fits p =
     let is = p.live alive in
     record {
-      onward = subst (λ r. AllByRecursion (IsOnward s.me s.peers a.request) (calls_in r)) is (calls_onward s a.request a.inputs a.answers rows);
-      short = subst (λ r. IfDone r IsShortTrace) is (runs_short s a.request a.inputs a.answers rows fits);
+      onward = subst (λ r. AllByRecursion (IsOnward s.me s.peers a.request) (calls_in r)) is (calls_onward (with_program a.program s) a.request a.inputs a.answers rows);
+      short = subst (λ r. IfDone r IsShortTrace) is (runs_short (with_program a.program s) a.request a.inputs a.answers rows fits);
     }
 trace_by s rows a t false dead fits p =
     subst (IsTraceOf s a.request) (sym (p.dead dead))
     (record { onward = tt; short = record { calls = tt; writes = tt; response = record { status = omega arith; body = omega arith } } })
 
-trace_is : (s : Setting) (rows : List Cell) (a : Act) (t : Trace) → routes_fit s.program ≡ true → IsPlayed s rows a t → IsTraceOf s a.request t
+trace_is : (s : Setting) (rows : List Cell) (a : Act) (t : Trace) → IsFormed a → IsPlayed s rows a t → IsTraceOf s a.request t
 trace_is s rows a t fits p = trace_by s rows a t (survives a) refl fits p
 
 -- ---- what an entry's record has
@@ -68,7 +74,7 @@ done_by (Some r) t did =
     let same : deed_in r ≡ deed_of t = cc in
     record { calls = ap (λ (d : Deed). d.calls) same; reply = ap (λ (d : Deed). Some d.response) same }
 
-entry_recorded : (s : Setting) (rows : List Cell) (consumed : Consumed) (e : Entry) (t : Trace) → routes_fit s.program ≡ true → IsPlayed s rows (act_of consumed e) t → IsRecorded s e
+entry_recorded : (s : Setting) (rows : List Cell) (consumed : Consumed) (e : Entry) (t : Trace) → HasFormed e → IsPlayed s rows (act_of consumed e) t → IsRecorded s e
 entry_recorded s rows consumed e t fits p =
     let done = done_by (record_of e) t p.did in
     let good = trace_is s rows (act_of consumed e) t fits p in
@@ -78,12 +84,12 @@ entry_recorded s rows consumed e t fits p =
       reply = subst (λ o. IfSome o IsResponse) (sym done.reply) good.short.response;
     }
 
-pub entries_recorded : (s : Setting) (rows : List Cell) (consumed : Consumed) (entries : List Entry) (traces : List Trace) (last : List Cell) → routes_fit s.program ≡ true
+pub entries_recorded : (s : Setting) (rows : List Cell) (consumed : Consumed) (entries : List Entry) (traces : List Trace) (last : List Cell) → AllByRecursion HasFormed entries
     → IsReplay s rows (map (act_of consumed) entries) traces last → AllByRecursion (IsRecorded s) entries
 entries_recorded s rows consumed [] traces last fits replay = tt
 entries_recorded s rows consumed (e ∷ entries) [] last fits replay = absurd replay
 entries_recorded s rows consumed (e ∷ entries) (t ∷ traces) last fits replay =
-    (entry_recorded s rows consumed e t fits replay.0, entries_recorded s (apply rows t.writes) consumed entries traces last fits replay.1)
+    (entry_recorded s rows consumed e t fits.0 replay.0, entries_recorded s (apply rows t.writes) consumed entries traces last fits.1 replay.1)
 
 -- ---- rows
 
@@ -111,13 +117,13 @@ cells_after cells (w ∷ writes) all short =
     let is = short.0 in
     cells_after (after_write cells w) writes (text_put w.table w.key w.text cells is.table is.some is.key is.text all) short.1
 
-pub rows_short : (s : Setting) (rows : List Cell) (acts : List Act) (traces : List Trace) (last : List Cell) → routes_fit s.program ≡ true → AllByRecursion IsCell rows → IsReplay s rows acts traces last → AllByRecursion IsCell last
+pub rows_short : (s : Setting) (rows : List Cell) (acts : List Act) (traces : List Trace) (last : List Cell) → AllByRecursion IsFormed acts → AllByRecursion IsCell rows → IsReplay s rows acts traces last → AllByRecursion IsCell last
 rows_short s rows [] [] last fits all replay = subst (AllByRecursion IsCell) replay all
 rows_short s rows [] (t ∷ traces) last fits all replay = absurd replay
 rows_short s rows (a ∷ acts) [] last fits all replay = absurd replay
 rows_short s rows (a ∷ acts) (t ∷ traces) last fits all replay =
-    let good = trace_is s rows a t fits replay.0 in
-    rows_short s (apply rows t.writes) acts traces last fits (cells_after rows t.writes all good.short.writes) replay.1
+    let good = trace_is s rows a t fits.0 replay.0 in
+    rows_short s (apply rows t.writes) acts traces last fits.1 (cells_after rows t.writes all good.short.writes) replay.1
 
 -- ---- responses
 
@@ -127,13 +133,13 @@ RespondsWell a = IfSome a.did (λ (d : Deed). IsResponse d.response)
 abbrev pub AllRespondWell : History → Type 0
 AllRespondWell h = AllByRecursion RespondsWell h.acts
 
-pub responses_short : (s : Setting) (rows : List Cell) (acts : List Act) (traces : List Trace) (last : List Cell) → routes_fit s.program ≡ true → IsReplay s rows acts traces last → AllByRecursion RespondsWell acts
+pub responses_short : (s : Setting) (rows : List Cell) (acts : List Act) (traces : List Trace) (last : List Cell) → AllByRecursion IsFormed acts → IsReplay s rows acts traces last → AllByRecursion RespondsWell acts
 responses_short s rows [] traces last fits replay = tt
 responses_short s rows (a ∷ acts) [] last fits replay = absurd replay
 responses_short s rows (a ∷ acts) (t ∷ traces) last fits replay =
-    let good = trace_is s rows a t fits replay.0 in (
+    let good = trace_is s rows a t fits.0 replay.0 in (
       subst (λ o. IfSome o (λ (d : Deed). IsResponse d.response)) (sym replay.0.did) good.short.response,
-      responses_short s (apply rows t.writes) acts traces last fits replay.1,
+      responses_short s (apply rows t.writes) acts traces last fits.1 replay.1,
     )
 
 -- what is found has what all have

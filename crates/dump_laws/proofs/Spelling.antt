@@ -1,5 +1,5 @@
 -- The dump of services spells what it says of them: line after line.
-use Rattle.std.proofs.Common.{◌≡◌, ℕ, ◌+◌, ◌<◌, true, List, [], ◌∷◌, ◌++◌, Option, Some, None, Ok, codes, decimal, get_or, length, map, ltb, ◌==◌, refl, sym, ap, ◌∙◌, subst, append_assoc, append-nil, arith, length-append}
+use Rattle.std.proofs.Common.{◌≡◌, ℕ, ◌+◌, ◌<◌, Bool, true, false, cond, List, [], ◌∷◌, ◌++◌, Option, Some, None, Ok, codes, decimal, get_or, length, map, nat_eq, ltb, ◌==◌, refl, sym, ap, ◌∙◌, subst, append_assoc, append-nil, arith, length-append}
 use Rattle.std.specs.List.{AllByRecursion, flat_map, list_all, position, zip}
 use Rattle.std.specs.Prelude.{IfSome}
 use Rattle.std.specs.Str.{IsUtf8}
@@ -7,6 +7,7 @@ use Rattle.std.proofs.Math.Seq.{take-append_seam, drop-append-add, get_or-append
 use Rattle.std.proofs.lemmas.Bool.Decides.{nat_tests}
 use Rattle.std.proofs.lemmas.Str.{IsUtf8-take, IsUtf8-drop, IsCharBoundary-before_ascii, IsCharBoundary-after_ascii, is_utf8-from_IsUtf8}
 use Rattle.lang_tree.specs.Methods.{method_word}
+use Rattle.lang_core.specs.HandedOn.{Route}
 use Rattle.lang_core.specs.declared.cells.Cell.{Cell}
 use Rattle.lang_core.specs.declared.inputs.Inputs.{Inputs}
 use Rattle.lang_core.specs.declared.request.Request.{Request}
@@ -24,15 +25,16 @@ use Rattle.dump_lines.specs.Dumps as dump
 use Rattle.dump_lines.specs.Dumps.{digit_of, dump_text, names_text, origin_text}
 use Rattle.dump_words.specs.Lines.{line_at}
 use Rattle.dump_words.specs.declared.line.Line.{Line}
-use Rattle.dump_words.specs.declared.line.Line.TheVariants.{Service, Peers, Program, Entry as OfEntry, Call, Answer, Reply, Row, End}
+use Rattle.dump_words.specs.declared.line.Line.TheVariants.{Service, Peers, Program, Entry as OfEntry, Under, Call, Answer, Reply, Row, End}
 use Rattle.dump_reader.specs.Reading.{lines_of}
 use Rattle.dump_reader.specs.Spelled as spelled
 use Rattle.dump_reader.specs.Spelled.{Spells, dump_lines, says}
 use Rattle.dump_reader.proofs.LineLemmas.{line_found}
-use Rattle.dump_laws.specs.Dumped.{dumped, dumped_all, dumped_entry, reply_in}
-use Rattle.dump_laws.specs.Forms.{IsCallMade, IsCell, IsDumpEntry, IsDumpService, IsFromOne, IsResponse, IsSetting}
+use Rattle.dump_laws.specs.Dumped.{brought_programs, dumped, dumped_all, dumped_entry, reply_in}
+use Rattle.dump_laws.specs.Forms.{IsCallMade, IsCell, IsDumpEntry, IsDumpService, IsFromOne, IsNumber, IsProgram, IsResponse}
+use Rattle.dump_laws.proofs.Programs.{programs_are}
 use Rattle.dump_laws.proofs.Words.{first_at, lacks}
-use Rattle.dump_laws.proofs.Lines.{IsLine, answer_is, asked_words, call_is, call_words, end_is, entry_is, entry_words, none_is, peers_are, program_is, reply_is, row_is, service_is, table_plain}
+use Rattle.dump_laws.proofs.Lines.{IsLine, answer_is, asked_words, call_is, call_words, end_is, entry_is, entry_words, none_is, peers_are, program_is, reply_is, row_is, service_is, table_plain, under_is}
 
 -- ---- one line after another
 
@@ -216,13 +218,26 @@ calls_tell consumed (n ∷ ns) (c ∷ cs) ones are answers =
     (tells_both (dump.call_line n c) (dump.answer_line (consumed n)) (Call (spelled.call_line n c) ∷ []) (Answer (consumed n) ∷ []) (call_tells n c ones.0 are.0) (answer_tells (consumed n) answers.0))
     (calls_tell consumed ns cs ones.1 are.1 answers.1)
 
+under_tells : (number : ℕ) (b : Bool) → IsNumber number → Tells (cond b [] (codes "under " ++ (decimal number ++ codes "\n"))) (cond b [] (Under number ∷ []))
+under_tells number true is = tells_none
+under_tells number false is =
+    let word = decimal number in
+    tells_line (codes "under " ++ (word ++ codes "\n")) (codes "under " ++ word) (Under number) (λ rest. more_before (codes "under ") (word ++ codes "\n") word rest (last_before word rest)) (under_is number is)
+
 entry_tells : (consumed : Consumed) (e : Entry) → IsDumpEntry (dumped_entry consumed e) → Tells (dump.entry_lines consumed e) (spelled.entry_lines (dumped_entry consumed e))
 entry_tells consumed e is =
     let d = dumped_entry consumed e in
     let calls = flat_map (dump.call_lines consumed) (zip e.slots (recorded_calls (record_of e))) in
-    tells_both (dump.entry_line e) (calls ++ dump.reply_line (record_of e)) (OfEntry (spelled.entry_line d) ∷ []) (spelled.call_lines d.numbers d.calls d.answers ++ Reply d.reply ∷ []) (entry_line_tells consumed e is)
-    (tells_both calls (dump.reply_line (record_of e)) (spelled.call_lines d.numbers d.calls d.answers) (Reply d.reply ∷ [])
-    (calls_tell consumed e.slots (recorded_calls (record_of e)) is.numbers is.calls is.answers) (reply_tells (record_of e) is.reply))
+    let told = spelled.call_lines d.numbers d.calls d.answers in
+    let under = spelled.under_lines d.under in
+    let all : Tells (dump.entry_lines consumed e) (OfEntry (spelled.entry_line d) ∷ (under ++ (told ++ Reply d.reply ∷ []))) =
+    tells_both (dump.entry_line e) (dump.under_line d.under ++ (calls ++ dump.reply_line (record_of e))) (OfEntry (spelled.entry_line d) ∷ []) (under ++ (told ++ Reply d.reply ∷ []))
+    (entry_line_tells consumed e is)
+    (tells_both (dump.under_line d.under) (calls ++ dump.reply_line (record_of e)) under (told ++ Reply d.reply ∷ []) (under_tells d.under (nat_eq d.under 1) is.under)
+    (tells_both calls (dump.reply_line (record_of e)) told (Reply d.reply ∷ [])
+    (calls_tell consumed e.slots (recorded_calls (record_of e)) is.numbers is.calls is.answers) (reply_tells (record_of e) is.reply))) in
+    let T : List Line → Type 0 = λ lines. Tells (dump.entry_lines consumed e) (OfEntry (spelled.entry_line d) ∷ lines) in
+    subst T (sym (append_assoc under told (Reply d.reply ∷ []))) all
 
 rows_tell : (rows : List Cell) → AllByRecursion IsCell rows → Tells (flat_map dump.row_line rows) (map Row rows)
 rows_tell [] are = tells_none
@@ -235,20 +250,31 @@ line_then a b rest = sym (append_assoc a b (10 ∷ rest)) ∙ sym (append_assoc 
 whole_line : (bare : List ℕ) (line : Line) → IsLine bare line → Tells (bare ++ codes "\n") (line ∷ [])
 whole_line bare line is = tells_line (bare ++ codes "\n") bare line (last_before bare) is
 
-head_tells : (s : Kept) → IsSetting (dumped s).setting → Tells (dump.head_lines s) (spelled.head_lines (dumped s).setting)
+program_tells : (p : List Route) → IsProgram p → Tells (dump.program_line p) (Program p ∷ [])
+program_tells p is =
+    let text = report.body_behind (text_of p) in
+    tells_line (dump.program_line p) (codes "program" ++ text) (Program p) (λ rest. more_before (codes "program") (text ++ codes "\n") text rest (last_before text rest))
+    (program_is p (read_again p is.formed is.held is.short))
+
+programs_tell : (ps : List (List Route)) → AllByRecursion IsProgram ps → Tells (flat_map dump.program_line ps) (map Program ps)
+programs_tell [] are = tells_none
+programs_tell (p ∷ ps) are = tells_both (dump.program_line p) (flat_map dump.program_line ps) (Program p ∷ []) (map Program ps) (program_tells p are.0) (programs_tell ps are.1)
+
+head_tells : (s : Kept) → IsDumpService (dumped s) → Tells (dump.head_lines s) (spelled.head_lines (dumped s).setting (dumped s).programs)
 head_tells s is =
     let name = codes "service " ++ me s in
     let peers = codes "peers " ++ names_text s.setting.peers in
-    let program = codes "program" ++ report.body_behind (text_of s.setting.program) in
-    let same : dump.head_lines s ≡ (name ++ codes "\n") ++ ((peers ++ codes "\n") ++ (program ++ codes "\n")) =
-    ap (λ t. codes "service " ++ (me s ++ 10 ∷ (codes "peers " ++ (names_text s.setting.peers ++ 10 ∷ t)))) (sym (append_assoc (codes "program") (report.body_behind (text_of s.setting.program)) (codes "\n")))
-    ∙ ap (λ t. codes "service " ++ (me s ++ 10 ∷ t)) (line_then (codes "peers ") (names_text s.setting.peers) (program ++ codes "\n"))
-    ∙ line_then (codes "service ") (me s) ((peers ++ codes "\n") ++ (program ++ codes "\n")) in
-    let T : List ℕ → Type 0 = λ t. Tells t (spelled.head_lines (dumped s).setting) in
+    let all = s.setting.program ∷ brought_programs s in
+    let text = flat_map dump.program_line all in
+    let same : dump.head_lines s ≡ (name ++ codes "\n") ++ ((peers ++ codes "\n") ++ text) =
+    ap (λ (ps : List (List Route)). codes "service " ++ (me s ++ 10 ∷ (codes "peers " ++ (names_text s.setting.peers ++ 10 ∷ flat_map dump.program_line ps)))) (programs_are s)
+    ∙ ap (λ t. codes "service " ++ (me s ++ 10 ∷ t)) (line_then (codes "peers ") (names_text s.setting.peers) text)
+    ∙ line_then (codes "service ") (me s) ((peers ++ codes "\n") ++ text) in
+    let T : List ℕ → Type 0 = λ t. Tells t (spelled.head_lines (dumped s).setting (dumped s).programs) in
     subst T (sym same)
-    (tells_both (name ++ codes "\n") ((peers ++ codes "\n") ++ (program ++ codes "\n")) (Service (me s) ∷ []) (Peers s.setting.peers ∷ Program s.setting.program ∷ []) (whole_line name (Service (me s)) (service_is (me s) is.me))
-    (tells_both (peers ++ codes "\n") (program ++ codes "\n") (Peers s.setting.peers ∷ []) (Program s.setting.program ∷ []) (whole_line peers (Peers s.setting.peers) (peers_are s.setting.peers is.peers))
-    (whole_line program (Program s.setting.program) (program_is s.setting.program (read_again s.setting.program is.formed is.held is.short)))))
+    (tells_both (name ++ codes "\n") ((peers ++ codes "\n") ++ text) (Service (me s) ∷ []) (Peers s.setting.peers ∷ map Program all) (whole_line name (Service (me s)) (service_is (me s) is.setting.me))
+    (tells_both (peers ++ codes "\n") text (Peers s.setting.peers ∷ []) (map Program all) (whole_line peers (Peers s.setting.peers) (peers_are s.setting.peers is.setting.peers))
+    (programs_tell all (is.setting.program, is.later))))
 
 service_tells : (s : Kept) → IsDumpService (dumped s) → Tells (dump.service_lines s) (spelled.service_lines (dumped s))
 service_tells s is =
@@ -256,9 +282,9 @@ service_tells s is =
     let entries = flat_map (dump.entry_lines (answers s)) s.entries in
     let rows = rows_after (base s) (unfolded s) in
     let entry_lines = flat_map spelled.entry_lines d.entries in
-    let head = spelled.head_lines d.setting in
+    let head = spelled.head_lines d.setting d.programs in
     let all : Tells (dump.service_lines s) (head ++ (entry_lines ++ (map Row rows ++ End ∷ []))) =
-    tells_both (dump.head_lines s) (entries ++ (flat_map dump.row_line rows ++ codes "end\n")) head (entry_lines ++ (map Row rows ++ End ∷ [])) (head_tells s is.setting)
+    tells_both (dump.head_lines s) (entries ++ (flat_map dump.row_line rows ++ codes "end\n")) head (entry_lines ++ (map Row rows ++ End ∷ [])) (head_tells s is)
     (tells_both entries (flat_map dump.row_line rows ++ codes "end\n") entry_lines (map Row rows ++ End ∷ [])
     (tells_all (dump.entry_lines (answers s)) spelled.entry_lines (dumped_entry (answers s)) IsDumpEntry (entry_tells (answers s)) s.entries is.entries)
     (tells_both (flat_map dump.row_line rows) (codes "end\n") (map Row rows) (End ∷ []) (rows_tell rows is.rows) (whole_line (codes "end") End end_is))) in

@@ -3,6 +3,7 @@ use Rattle.std.specs.Prelude.{◌≡◌, ℕ, ◌<◌, ◌≤◌, ◌^◌, true,
 use Rattle.std.specs.List.{AllByRecursion, list_all}
 use Rattle.lang_tree.specs.Depths.{routes_fit}
 use Rattle.lang_tree.specs.Forms.{is_path, is_word}
+use Rattle.lang_core.specs.HandedOn.{Route}
 use Rattle.lang_core.specs.Names.{is_name, is_who}
 use Rattle.lang_core.specs.declared.cells.Cell.{Cell}
 use Rattle.lang_core.specs.declared.ids.Origin.{Origin}
@@ -16,6 +17,7 @@ use Rattle.lang_tokens.specs.Spelling.{is_held}
 use Rattle.lang_grammar.specs.Grammar.{program_tokens}
 use Rattle.lang_grammar.specs.Printing.{text_of}
 use Rattle.request_log.specs.declared.entry.Entry.{Entry}
+use Rattle.journal_rows.specs.Programs.{programs}
 use Rattle.service_events.specs.State.{Kept}
 use Rattle.dump_tables.specs.declared.dump.DumpEntry.{DumpEntry}
 use Rattle.dump_tables.specs.declared.dump.DumpService.{DumpService}
@@ -73,22 +75,28 @@ pub record IsDumpEntry (e : DumpEntry) : Type 0 where
   pub version : IsNumber e.version
   pub inputs : AreInputs e.inputs
   pub request : IsRequest e.request
+  pub under : IsNumber e.under
   pub numbers : AllByRecursion IsFromOne e.numbers
   pub calls : AllByRecursion IsCallMade e.calls
   pub answers : AllByRecursion IsResponse e.answers
   pub reply : IfSome e.reply IsResponse
 
--- a service's name and those of its peers, and its program: what its type keeps of it, and that what is printed of it isn't too long to be read
+-- a program: what its type keeps of it, and that what is printed of it isn't too long to be read
+pub record IsProgram (p : List Route) : Type 0 where
+  pub formed : routes_fit p ≡ true
+  pub held : list_all is_held (program_tokens p) ≡ true
+  pub short : length (text_of p) ≤ 65536
+
+-- a service's name, those of its peers, and its first program
 pub record IsSetting (s : Setting) : Type 0 where
   pub me : is_name s.me ≡ true
   pub peers : list_all is_name s.peers ≡ true
-  pub formed : routes_fit s.program ≡ true
-  pub held : list_all is_held (program_tokens s.program) ≡ true
-  pub short : length (text_of s.program) ≤ 65536
+  pub program : IsProgram s.program
 
 -- what a dump says of a service
 pub record IsDumpService (s : DumpService) : Type 0 where
   pub setting : IsSetting s.setting
+  pub later : AllByRecursion IsProgram s.programs.later
   pub entries : AllByRecursion IsDumpEntry s.entries
   pub rows : AllByRecursion IsCell s.rows
 
@@ -105,8 +113,10 @@ pub record IsWrittenEntry (e : Entry) : Type 0 where
   pub version : IsNumber e.version
   pub inputs : AreInputs e.inputs
   pub request : IsRequest e.request
+  pub under : IsNumber e.under.now.number
   pub slots : AllByRecursion IsNumber e.slots
 
 pub record IsWritten (s : Kept) : Type 0 where
   pub setting : IsSetting s.setting
+  pub programs : AllByRecursion IsProgram (programs s.setting.program s.journal)
   pub entries : AllByRecursion IsWrittenEntry s.entries
