@@ -74,7 +74,7 @@ fn headed(me: Name, n: u64, line: Line) -> Result<Stage, DumpRefused>
 }
 
 fn service_with(alloc: Global, head: Head, program: Program, programs: DumpPrograms) -> DumpService
-    ensures { programs ≡ record { first = program; later = [] } → result ≡ service_of head program }
+    ensures { result ≡ record { setting = (service_of head program).setting; programs = programs; entries = []; rows = [] } }
 {
     let Head { me, peers } = head;
     DumpService {
