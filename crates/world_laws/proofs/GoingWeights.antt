@@ -7,6 +7,7 @@ use Rattle.lang_core.specs.declared.request.Request.{Request}
 use Rattle.lang_core.specs.declared.trace.CallMade.{CallMade}
 use Rattle.lang_core.specs.declared.trace.Trace.{Trace}
 use Rattle.handler_run.proofs.RunLaws.{few_wants, goes_on_wants}
+use Rattle.handler_run.specs.HandedOn.{with_program}
 use Rattle.handler_run.specs.declared.state.Ran.{Ran}
 use Rattle.handler_run.specs.declared.state.Ran.TheVariants.{Done, Wants}
 use Rattle.local_repair.specs.Alone.{trace_or_dead}
@@ -84,15 +85,16 @@ got P (x ∷ cs) (suc slot) c e h = got P cs slot c e h.1
 onwards : (s : Kept) (f : Flight) (ran : Ran) → flight_run s f ≡ ran → Each (IsOnward (me s) s.setting.peers f.request) (calls_in ran)
 onwards s f ran is =
     let E : Ran → Type 0 = λ r. Each (IsOnward (me s) s.setting.peers f.request) (calls_in r) in
-    subst E is (calls_onward s.setting f.request f.inputs (map (answers s) f.numbers) (rows_after (base s) (unfolded s)))
+    subst E is (calls_onward (with_program f.program.program s.setting) f.request f.inputs (map (answers s) f.numbers) (rows_after (base s) (unfolded s)))
 
 -- a run that wants an answer was given fewer than 16, one by each number
 few_numbers : (s : Kept) (f : Flight) (slot : ℕ) (calls : List CallMade) (call : CallMade) → flight_run s f ≡ Wants slot calls call → length f.numbers < 16
 few_numbers s f slot calls call is =
     let given = map (answers s) f.numbers in
     let rows = rows_after (base s) (unfolded s) in
-    let few = few_wants s.setting f.request f.inputs given rows slot calls call is in
-    let all = (goes_on_wants s.setting f.request f.inputs given rows slot calls call is).0 in
+    let setting = with_program f.program.program s.setting in
+    let few = few_wants setting f.request f.inputs given rows slot calls call is in
+    let all = (goes_on_wants setting f.request f.inputs given rows slot calls call is).0 in
     let many : length given ≡ length f.numbers = length-map f.numbers (answers s) in
     omega (arith, few, all, many)
 
