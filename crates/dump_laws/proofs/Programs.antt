@@ -1,5 +1,6 @@
 -- The programs of a service: its first and those that orders brought, each found by its number.
-use Rattle.std.proofs.Common.{◌≡◌, ℕ, zero, suc, true, List, [], ◌∷◌, ◌++◌, Option, Some, None, fold, slice_get, refl, sym, ap, ◌∙◌, subst}
+use Rattle.std.proofs.Common.{◌≡◌, ℕ, zero, suc, ◌-◌, Bool, true, false, nat_eq, nat_lt, List, [], ◌∷◌, ◌++◌, Option, Some, None, fold, slice_get, refl, sym, ap, ◌∙◌, subst, arith, eqb-true}
+use Rattle.std.proofs.lemmas.Bool.{ltb-true}
 use Rattle.std.specs.Prelude.{All}
 use Rattle.std.specs.List.{AllByRecursion}
 use Rattle.std.proofs.lemmas.List.{take-append-drop}
@@ -39,10 +40,18 @@ programs_are s = brought_more s.setting.program [] s.journal
 
 -- ---- by their numbers
 
+no_by : (b : Bool) → (b ≡ true → ⊥) → b ≡ false
+no_by true fails = absurd (fails refl)
+no_by false fails = refl
+
 numbered_so : (n : ℕ) (first : List Route) (later : List (List Route)) (p : List Route) → by_number n (first ∷ later) ≡ Some p → numbered n (record { first = first; later = later }) ≡ Some p
 numbered_so zero first later p h = absurd cc
 numbered_so (suc zero) first later p h = h
-numbered_so (suc (suc n)) first later p h = h
+numbered_so (suc (suc n)) first later p h =
+    let other : nat_eq (suc (suc n)) 1 ≡ false = no_by (nat_eq (suc (suc n)) 1) (λ yes. absurd (omega (arith, eqb-true (suc (suc n)) 1 yes))) in
+    let behind : nat_lt (suc (suc n)) 2 ≡ false = no_by (nat_lt (suc (suc n)) 2) (λ yes. absurd (omega (arith, ltb-true (suc (suc n)) 2 yes))) in
+    let place : suc (suc n) - 2 ≡ n = omega arith in
+    rw (other, behind, place) h
 
 pub there_numbered : (s : Kept) (n : ℕ) (p : List Route) → by_number n (programs s.setting.program s.journal) ≡ Some p
     → numbered n (record { first = s.setting.program; later = brought_programs s }) ≡ Some p

@@ -1,5 +1,5 @@
 -- What is read is what the lines say.
-use Rattle.std.proofs.Common.{◌≡◌, ◌⊎◌, ℕ, ◌+◌, zero, suc, Bool, true, false, cond, not, List, [], ◌∷◌, ◌++◌, Option, Some, None, Result, Ok, Err, nat_eq, nat_lt, length, map, inl, inr, refl, sym, ap, ◌∙◌, subst, append_assoc, append-nil, length-append, eq-eqb, eqb-true, ◌||◌, arith}
+use Rattle.std.proofs.Common.{◌≡◌, ◌⊎◌, ℕ, ◌+◌, ◌-◌, suc, Bool, true, false, cond, not, List, [], ◌∷◌, ◌++◌, Option, Some, None, Result, Ok, Err, nat_eq, nat_lt, slice_get, length, map, inl, inr, refl, sym, ap, ◌∙◌, subst, append_assoc, append-nil, length-append, eq-eqb, eqb-true, ◌||◌, arith}
 use Rattle.std.specs.List.{flat_map, list_any}
 use Rattle.std.proofs.lemmas.Bool.{and_parts}
 use Rattle.std.proofs.lemmas.List.{map-append}
@@ -227,10 +227,17 @@ no_call_lines [] (r ∷ rs) = refl
 no_call_lines (c ∷ cs) [] = refl
 no_call_lines (c ∷ cs) (r ∷ rs) = refl
 
+not_none : (b : Bool) (o : Option (List Route)) (program : List Route) → cond b None o ≡ Some program → b ≡ false
+not_none true o program h = absurd cc
+not_none false o program h = refl
+
+not_one : (number : ℕ) (b : Bool) → nat_eq number 1 ≡ b → nat_lt number 2 ≡ false → b ≡ false
+not_one number true is few = (let small : nat_lt number 2 ≡ true = ap (λ n. nat_lt n 2) (eqb-true number 1 is) in sym small ∙ few)
+not_one number false is few = refl
+
+-- a program that is found behind the first has another number
 pub not_first : (number : ℕ) (later : List (List Route)) (program : List Route) → later_at number later ≡ Some program → nat_eq number 1 ≡ false
-not_first zero later program h = absurd cc
-not_first (suc zero) later program h = absurd cc
-not_first (suc (suc n)) later program h = refl
+not_first number later program h = not_one number (nat_eq number 1) refl (not_none (nat_lt number 2) (slice_get later (number - 2)) program h)
 
 under_so : (r : Running) (n number : ℕ) (found : Option (List Route)) (next : Stage) → later_at number r.programs.later ≡ found → Fits r.entry → is_bare r.entry ≡ true
     → under_it r n number found ≡ Ok next → Adds (Runs r) (Under number) next
