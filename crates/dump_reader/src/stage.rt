@@ -24,12 +24,12 @@ pub struct Calling {
 
 impl Model for Calling {
     ghost use Rattle.std.specs.Prelude.{◌≡◌};
-    ghost use Rattle.dump_tables.specs.contracts.dump.DumpEntry as entry;
+    ghost use Rattle.dump_tables.specs.contracts.dump.DumpEntry as dump_entry;
     ghost use Rattle.dump_tables.specs.declared.dump.DumpEntry.{DumpEntry};
 
     ghost Value = { DumpEntry };
 
-    ghost coded = { entry.the_row.coded };
+    ghost coded = { dump_entry.the_row.coded };
 
     ghost view = { λ calling. calling.entry };
 

@@ -42,12 +42,12 @@ impl Model for DumpEntries {
     ghost use Rattle.std.specs.Prelude.{List};
     ghost use Rattle.std.specs.Coded.{coded_list};
     ghost use Rattle.dump_tables.specs.Indexed.{AreIndexed};
-    ghost use Rattle.dump_tables.specs.contracts.dump.DumpEntry as entry;
+    ghost use Rattle.dump_tables.specs.contracts.dump.DumpEntry as dump_entry;
     ghost use Rattle.dump_tables.specs.declared.dump.DumpEntry.{DumpEntry};
 
     ghost Value = { List DumpEntry };
 
-    ghost coded = { coded_list entry.the_row.coded };
+    ghost coded = { coded_list dump_entry.the_row.coded };
 
     ghost view = { λ entries. entries.items.items };
 
