@@ -1,6 +1,7 @@
 pub mod Told
 pub mod Audits
 pub mod Counting
+pub mod Dumping
 pub mod Printing
 pub mod Plays
 pub mod Settling

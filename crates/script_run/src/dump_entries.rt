@@ -9,6 +9,7 @@ ghost use Rattle.call_registers.specs.Registers.{consumed};
 ghost use Rattle.report_text.specs.Reports.{response_text};
 ghost use Rattle.dump_lines.specs.Dumps.{answer_line, call_line, call_lines, digit_of, entry_line, entry_lines, inputs_text, reply_line, request_text};
 
+use crate::dump_programs::push_under;
 use crate::dump_words::{digit_of, push_inputs, push_origin, push_request};
 use call_registers::Registers;
 use lang_core::{CallMade, Inputs, NoMemory, Request, Response};
@@ -143,7 +144,7 @@ fn calls_of(made: &Option<Made>) -> &[CallMade]
     }
 }
 
-/// Puts an entry last with its calls, what they consume by these registers, and its reply.
+/// Puts an entry last with the number of its program, its calls, what they consume by these registers, and its reply.
 pub(crate) fn push_entry(
     text: &mut String,
     registers: &Registers,
@@ -153,6 +154,7 @@ pub(crate) fn push_entry(
         ++ entry_lines (λ n. answer_or_tentative (consumed n registers.now.list)) entry.now) }
 {
     push_entry_line(text, entry)?;
+    push_under(text, entry.under.now().get().number())?;
     push_calls(
         text,
         registers,
@@ -162,7 +164,8 @@ pub(crate) fn push_entry(
     push_reply_line(text, &entry.made)
 }
 
-/// Puts a folded entry last like one that isn't folded: with its calls, what they consume by these registers, and its reply.
+/// Puts a folded entry last like one that isn't folded: with the number of its program, its calls, what they consume by these
+/// registers, and its reply.
 pub(crate) fn push_folded(
     text: &mut String,
     registers: &Registers,
@@ -172,6 +175,7 @@ pub(crate) fn push_folded(
         ++ entry_lines (λ n. answer_or_tentative (consumed n registers.now.list)) (as_entry folded.now)) }
 {
     push_folded_line(text, folded)?;
+    push_under(text, folded.program.get().number)?;
     push_calls(
         text,
         registers,

@@ -5,8 +5,8 @@ ghost use Rattle.service_events.specs.State.{answers, folded, unfolded};
 ghost use Rattle.dump_lines.specs.Dumps.{dump_text, entry_lines, head_lines, row_line, service_lines};
 
 use crate::dump_entries::{push_entry, push_folded};
+use crate::dump_programs::push_programs;
 use crate::dump_words::push_names;
-use handler_lang::print_program;
 use lang_core::{Cell, Cells, NoMemory, Text};
 use report_text::{push_body_behind, push_key};
 use std::alloc::Global;
@@ -16,14 +16,11 @@ fn push_head(alloc: Global, text: &mut String, service: &Service) -> Result<(), 
     ensures { OnOk result (string_bytes text.new ≡ string_bytes text.old ++ head_lines service.now) }
 {
     let setting = service.setting();
-    let program = print_program(alloc, &setting.program)?;
     let me = setting.me.as_str();
     write!(text, "service {me}\npeers ")?;
     push_names(text, &setting.peers)?;
-    text.push_str("\nprogram")?;
-    push_body_behind(text, program.as_str())?;
     text.push_str("\n")?;
-    Ok(())
+    push_programs(alloc, text, service)
 }
 
 fn push_row(text: &mut String, cell: &Cell) -> Result<(), NoMemory>
@@ -84,7 +81,7 @@ fn push_service(alloc: Global, text: &mut String, service: &Service) -> Result<(
     Ok(())
 }
 
-/// These services as a text, from which they can be judged: each with its peers, its program, its entries in logged order, the
+/// These services as a text, from which they can be judged: each with its peers, its programs, its entries in logged order, the
 /// folded ones first, and its rows. An entry has its request as it is now, its calls in the order of their slots, what each consumes now, and its reply.
 pub fn dump_text(alloc: Global, services: &[Service]) -> Result<Text, NoMemory>
     ensures { IfOk result (λ text. text ≡ dump_text services.now) }

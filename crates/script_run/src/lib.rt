@@ -6,6 +6,7 @@ mod acting;
 mod asking;
 mod counts;
 mod dump_entries;
+mod dump_programs;
 mod dump_words;
 mod dumping;
 mod giving;
