@@ -5,14 +5,16 @@ use Rattle.std.specs.Coded.{Coded, Coded-set, Unit-prop, ×_prop, Π_prop, →_p
 use Rattle.authorise_rules.specs.Deciding.{Question, decision}
 use Rattle.authorise_rules.specs.declared.asked.Decision.{Decision}
 use Rattle.authorise_rules.specs.declared.asked.Decision.TheVariants.{Allow, Deny}
+use Rattle.authorise_rules.specs.Given.{GivenRules}
 use Rattle.authorise_rules.specs.declared.rule.Rule.{Rule}
+use Rattle.journal_rows.specs.Programs.{rules_now}
 use Rattle.journal_rows.specs.declared.callee.TookHow.{TookHow}
 use Rattle.journal_rows.specs.declared.callee.TookHow.TheVariants.{Live, Message}
 use Rattle.journal_rows.specs.declared.caller.SawHow.{SawHow}
 use Rattle.journal_rows.specs.declared.caller.SawHow.TheVariants.{Live as SeenLive, Fetch as Fetched}
 use Rattle.journal_rows.specs.declared.row.Row.{Row}
 use Rattle.journal_rows.specs.declared.row.Row.TheVariants.{Asked, Took, Acked, Answered, WasConfirmed, Sent, SawAck, Noted, SawAnswer, Confirmed, Ordered}
-use Rattle.service_events.specs.Allowed.{AllowedOn, Allows, AllowsSeen, AllowsTook, IsAllowed}
+use Rattle.service_events.specs.Allowed.{AllowedOn, AllowedThen, Allows, AllowsSeen, AllowsTook, IsAllowed}
 use Rattle.service_events.specs.Fits.{EachAfter}
 use Rattle.service_events.specs.State.{Kept}
 
@@ -65,12 +67,12 @@ row_prop rules before (Ordered o) = allows_prop rules _ o.rule
 
 -- ---- a journal, and all of them
 
-rows_prop : (rules : List Rule) (before journal : List Row) → IsProp (EachAfter (AllowedOn rules) before journal)
-rows_prop rules before [] = Unit-prop
-rows_prop rules before (row ∷ rows) = ×_prop (row_prop rules before row) (rows_prop rules (before ++ row ∷ []) rows)
+rows_prop : (began : GivenRules) (before journal : List Row) → IsProp (EachAfter (AllowedThen began) before journal)
+rows_prop began before [] = Unit-prop
+rows_prop began before (row ∷ rows) = ×_prop (row_prop (rules_now began before).rules before row) (rows_prop began (before ++ row ∷ []) rows)
 
 services_prop : (services : List Kept) → IsProp (All IsAllowed services)
-services_prop services = Π_prop (λ k. Π_prop (λ d. →_prop (rows_prop (slice_index_or services k d).rules [] (slice_index_or services k d).journal)))
+services_prop services = Π_prop (λ k. Π_prop (λ d. →_prop (rows_prop (slice_index_or services k d).began [] (slice_index_or services k d).journal)))
 
 -- where services are shown to be allowed of whatever joins them, and something does
 pub allowed_where : {Joined : Type 0} (services : List Kept) → ∥ Joined ∥₁ → (Joined → All IsAllowed services) → All IsAllowed services

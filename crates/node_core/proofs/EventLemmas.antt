@@ -95,7 +95,7 @@ module _ (s t : Kept) (begun : Option Begun) where
   -- as many live answers more as were committed
   pub counts_by : (e : Event) (d : Done) → MayAsk s begun e → FindsFlight s begun e → Happens e s d t → Answers s e d t
       → length (live_rows t.journal) ≡ length (live_rows s.journal) + count_of (committed_by begun (memo_of e) d)
-  counts_by (events.Arrive o q i) (done.Arrive r) may there happens h = counts o q i s t r h.1
+  counts_by (events.Arrive o q i) (done.Arrive r) may there happens h = counts o q i s t r (s.newest, h.1)
   counts_by (events.Arrive o q i) d may there happens h = absurd h
   counts_by (events.CallAnswered flight a) (done.CallAnswered r) may there happens h = counts_open begun s t r (flies flight begun s t r may there h.1)
   counts_by (events.CallAnswered flight a) d may there happens h = absurd h
@@ -135,7 +135,7 @@ module _ (s t : Kept) (begun : Option Begun) where
 
   -- behind a commit the answer stands there
   pub answered_by : (e : Event) (d : Done) → MayAsk s begun e → FindsFlight s begun e → Answers s e d t → IfSome (committed_by begun (memo_of e) d) (IsIn t.journal)
-  answered_by (events.Arrive o q i) (done.Arrive r) may there h = answered o q i s t r h.1
+  answered_by (events.Arrive o q i) (done.Arrive r) may there h = answered o q i s t r (s.newest, h.1)
   answered_by (events.Arrive o q i) d may there h = absurd h
   answered_by (events.CallAnswered flight a) (done.CallAnswered r) may there h = answered_open begun s t r (flies flight begun s t r may there h.1)
   answered_by (events.CallAnswered flight a) d may there h = absurd h
@@ -147,7 +147,7 @@ module _ (s t : Kept) (begun : Option Begun) where
   -- the receipt that was given is the one that is due
   pub gets_by : (e : Event) (d : Done) (secret : List ℕ) (had have : List Receipt) → MayAsk s begun e → FindsFlight s begun e → Answers s e d t
       → IsGivenReceipt t secret (committed_by begun (memo_of e) d) had have → HasReceipts t secret begun e d had have
-  gets_by (events.Arrive o q i) (done.Arrive r) secret had have may there h given = gets o q i s t secret r had have h.1 given
+  gets_by (events.Arrive o q i) (done.Arrive r) secret had have may there h given = gets o q i s t secret r had have (s.newest, h.1) given
   gets_by (events.CallAnswered flight a) (done.CallAnswered r) secret had have may there h given =
       gets_open begun s t secret r had have (flies flight begun s t r may there h.1) given
   gets_by (events.CallFailed flight number why) (done.CallFailed r) secret had have may there h given =

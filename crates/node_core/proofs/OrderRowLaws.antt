@@ -33,7 +33,7 @@ use Rattle.service_events.specs.Arriving.{abandoned, accepted, admitted, answere
 use Rattle.service_events.specs.Calls.{all_deleted, named, noted}
 use Rattle.service_events.specs.Event.{event, is_lacking, Happens}
 use Rattle.service_events.specs.Flying.{awaited, before_answer, call_or_none, change_rows, changed, changed_unsent, committed, completed, completing, flight_run, goes_on, live_answer, moved, named_unsent, surplus_rows, took_rows, waits, wanted_of, with_change, with_slot}
-use Rattle.service_events.specs.Messages.{acked_again, acked_row, confirmed_row, fetched, fetched_row, hear_new, hear_rule, heard, held_back, held_where, hold_of, is_known, is_now, is_too_much, noted_row, origin_of, posted, saw_ack_row, take_admitted, take_new, taken, taken_by, token_taken_where, took_row, was_confirmed_row}
+use Rattle.service_events.specs.Messages.{acked_again, acked_row, confirmed_row, created_row, fetched, fetched_row, hear_new, hear_rule, heard, held_back, held_where, hold_of, is_known, is_now, is_too_much, noted_row, posted, saw_ack_row, take_admitted, take_new, taken, taken_by, token_taken_where, took_row, was_confirmed_row}
 use Rattle.service_events.specs.State.{Kept, After, after, answers, base, flight_of, is_crowded, is_heavy, next_id, or_else, unfolded}
 use Rattle.service_events.specs.Steps.{answer_rows, new_record, sent_rows, Stale, stale_in, step_by, step_event}
 use Rattle.service_events.specs.declared.answers.Arrived.{Arrived}
@@ -115,7 +115,7 @@ module _ (orders : List Row) where
   committed_has s f t h =
       let surplus = surplus_rows s f t in
       let took = took_rows f.origin f.request in
-      let asks = Asked (record { id = next_id s; origin = f.origin; request = f.request; inputs = f.inputs }) in
+      let asks = Asked (record { id = next_id s; origin = f.origin; request = f.request; inputs = f.inputs; program = f.program.number }) in
       let deleted = each_weaker IsSending IsUnordered sending_unordered surplus (sends_deleted s.registers (drop (length t.calls) f.numbers) (drop (length t.calls) f.calls)) in
       by_rows s (committed s f t).service (before_answer s f t ++ live_answer s f t ∷ []) refl
       (each_append IsUnordered (before_answer s f t) (live_answer s f t ∷ [])
@@ -223,8 +223,7 @@ module _ (orders : List Row) where
   taken_has : (s : Kept) (set : SetMessage) (i : Inputs) (e : Option _) (d : Option Request) → Has s → Has (taken_by s set i e d)
   taken_has s set i (Some e) d h = by_rows s (taken_by s set i (Some e) d) (took_row s set ∷ (acked_row set ∷ [])) refl (tt, (tt, tt)) h
   taken_has s set i None (Some q) h =
-      let asks = Asked (record { id = next_id s; origin = origin_of set; request = q; inputs = i }) in
-      by_rows s (taken_by s set i None (Some q)) (took_row s set ∷ (asks ∷ (acked_row set ∷ []))) refl (tt, (tt, (tt, tt))) h
+      by_rows s (taken_by s set i None (Some q)) (took_row s set ∷ (created_row s set q i ∷ (acked_row set ∷ []))) refl (tt, (tt, (tt, tt))) h
   taken_has s set i None None h = by_rows s (taken_by s set i None None) (took_row s set ∷ (acked_row set ∷ [])) refl (tt, (tt, tt)) h
 
   version_taken_has : (s : Kept) (set : SetMessage) (i : Inputs) (n : Option ℕ) → Has s → Has (take_admitted s set i n).service

@@ -26,12 +26,13 @@ pub record AgreesWith (journal : List Row) (r : Receipt) : Type 0 where
   pub there : slice_get journal r.index ≡ Some r.row
   pub asked_so : WasAskedSo r.request r.inputs (asked (answered_id r.row) journal)
 
--- a live request with this request and these inputs was committed as the entry of this number, and its answer stands at this place
+-- a live request with this request and these inputs was committed as the entry of this number, under some program, and its answer stands at this place
 pub record HasAnswered (journal : List Row) (q : Request) (i : Inputs) (place id : ℕ) : Type 0 where
   pub origin : Origin
   pub response : Response
+  pub program : ℕ
   pub there : slice_get journal place ≡ Some (Answered (live_answer_of id origin response))
-  pub asked_so : asked id journal ≡ Some (record { id = id; origin = origin; request = q; inputs = i })
+  pub asked_so : asked id journal ≡ Some (record { id = id; origin = origin; request = q; inputs = i; program = program })
 
 -- this service's receipt for a live request with this request and these inputs, whose answer stands at this place
 pub record IsReceiptAt (s : Kept) (secret : List ℕ) (q : Request) (i : Inputs) (place : ℕ) (r : Receipt) : Type 0 where
