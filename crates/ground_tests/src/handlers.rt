@@ -45,7 +45,17 @@ fn is_too_long_for(rt: &(impl Abort + AllocGlobal), stmts: &str) {
     let cells = Cells::new(rt.alloc());
     let answers = Answers::new(rt.alloc());
     let view = RowsView { cells: &cells };
-    let ran = run(rt.alloc(), &setting, &request, &INPUTS, &answers, &view).expect(rt, "memory");
+    let program = &setting.program;
+    let ran = run(
+        rt.alloc(),
+        &setting,
+        program,
+        &request,
+        &INPUTS,
+        &answers,
+        &view,
+    )
+    .expect(rt, "memory");
     match ran {
         Ran::Done(trace) => same(rt, trace.response.body.as_bytes(), "fault 4"),
         _ => holds(rt, stmts, false),

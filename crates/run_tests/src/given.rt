@@ -62,7 +62,7 @@ fn services_of(alloc: Global, setups: &[Setup]) -> Result<Vec<Service>, NoMemory
     for setup in setups {
         let setting = setup.setting.copied(alloc)?;
         let rules = setup.rules.copied(alloc)?;
-        services.push(Service::new(alloc, setting, rules))?;
+        services.push(Service::new(alloc, setting, rules)?)?;
     }
     Ok(services)
 }
