@@ -79,9 +79,13 @@ impl Drop for LastGave {
 
 impl Model for LastGave {
     ghost use Rattle.std.specs.Prelude.{◌<◌, Option, slice_get, vec_capacity};
+    ghost use Rattle.std.specs.Coded.{coded_option};
+    ghost use Rattle.node_core.specs.contracts.notes.Gave as gave;
     ghost use Rattle.node_core.specs.declared.notes.Gave.{Gave};
 
     ghost Value = { Option Gave };
+
+    ghost coded = { coded_option gave.the_row.coded };
 
     ghost view = { λ last. slice_get last.items.items 0 };
 

@@ -61,9 +61,13 @@ pub struct OrderNotes {
 
 impl Model for OrderNotes {
     ghost use Rattle.std.specs.Prelude.{List};
+    ghost use Rattle.std.specs.Coded.{coded_list};
+    ghost use Rattle.node_core.specs.contracts.orders.OrderNote as note;
     ghost use Rattle.node_core.specs.declared.orders.OrderNote.{OrderNote};
 
     ghost Value = { List OrderNote };
+
+    ghost coded = { coded_list note.the_row.coded };
 
     ghost view = { λ notes. notes.items.items };
 }
