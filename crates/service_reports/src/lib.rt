@@ -2,6 +2,7 @@
 //! would come to.
 #![tactic(auto)]
 
+mod in_use;
 mod lines;
 mod previews;
 mod programs;
