@@ -207,20 +207,18 @@ impl Flights {
         remove_from(&mut self.list, id)
     }
 
-    /// Puts a program in place of that of a number, for each flight that has it; nothing is said of the room then. Refused,
-    /// nothing changes. It costs as a copy of the flights does.
-    pub fn correct(
-        &mut self,
+    /// Equal flights, but with a program in place of that of a number, for each flight that has it; nothing is said of their
+    /// room.
+    pub fn corrected(
+        &self,
         alloc: Global,
         number: u64,
         program: &Shared<Deployed>,
-    ) -> Result<(), NoMemory>
-        ensures ok { OnOk result (self.new.list ≡ map (corrected_flight number program.now) self.old.list) }
-        ensures err { OnErr result (self.new ≡ self.old) }
+    ) -> Result<Flights, NoMemory>
+        ensures { IfOk result (λ copy. copy.list ≡ map (corrected_flight number program.now) self.now.list) }
     {
         let list = all_corrected(alloc, self.list.as_slice(), number, program)?;
-        self.list = list;
-        Ok(())
+        Ok(Flights { list })
     }
 
     /// Equal flights; nothing is said of their room.
