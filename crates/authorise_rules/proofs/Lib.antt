@@ -1,7 +1,7 @@
 pub mod Answered
 pub mod FirstMatch
 pub mod FormLemmas
-pub mod Given
+pub mod GivenLemmas
 pub mod LineLemmas
 pub mod Lines
 pub mod Printed

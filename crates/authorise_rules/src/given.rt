@@ -70,7 +70,7 @@ impl Copied for GivenRules {
 
 impl Same for GivenRules {
     // A text is read as one list of rules.
-    #[tactic(auto, using(crate::proofs::Given::same_given))]
+    #[tactic(auto, using(crate::proofs::GivenLemmas::same_given))]
     fn is(&self, other: &GivenRules) -> bool {
         self.text.is(&other.text)
     }
