@@ -1,5 +1,6 @@
 -- How many programs a journal tells of: one at most for each row, and one more.
-use Rattle.std.proofs.Common.{ℕ, ◌+◌, ◌<◌, ◌≤◌, ◌^◌, List, [], ◌∷◌, Vec, fold, length, arith}
+use Rattle.std.specs.Prelude.{Vec}
+use Rattle.std.proofs.Common.{ℕ, ◌+◌, ◌<◌, ◌≤◌, ◌^◌, List, [], ◌∷◌, fold, length, arith}
 use Rattle.journal_rows.specs.Programs.{counted, program_count, program_step}
 use Rattle.journal_rows.specs.declared.orders.Command.{Command}
 use Rattle.journal_rows.specs.declared.orders.Command.TheVariants.{Deploy, Correct}

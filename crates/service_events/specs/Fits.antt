@@ -411,7 +411,8 @@ pub record WasUnder (first : List Route) (journal : List Row) (e : Entry) : Type
 
 -- the rules and the newest program, and the programs of folded entries, of the others and of flights, where this program was the first and
 -- these rules were given first
-pub record ProgramsFollow (first : List Route) (began stand : GivenRules) (last : Numbered) (journal : List Row) (gone others : List Entry) (aloft : List Flight) : Type 0 where
+pub record ProgramsFollow (first : List Route) (began stand : GivenRules) (last : Numbered) (journal : List Row) (gone others : List Entry)
+    (aloft : List Flight) : Type 0 where
   pub rows : EachAfter ProgramsOn [] journal
   pub rules : stand ≡ rules_now began journal
   pub newest : last ≡ newest_now first journal
