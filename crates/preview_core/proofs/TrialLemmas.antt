@@ -12,12 +12,12 @@ use Rattle.service_events.specs.Orders.{order_by, order_event, order_where, refu
 use Rattle.service_events.specs.State.{Kept, After}
 use Rattle.service_events.specs.declared.answers.Ordered.{Ordered}
 use Rattle.service_events.specs.declared.refusals.OrderRefused.{OrderRefused}
-use Rattle.service_events.specs.declared.refusals.OrderRefused.TheVariants.{NoMemory, NoSuchRequest, Denied, Full, NotHeld, NotOutside, TooOld, NotQuiet}
+use Rattle.service_events.specs.declared.refusals.OrderRefused.TheVariants.{NoMemory, NoSuchRequest, Denied, Full, NotHeld, NotOutside, TooOld, NotQuiet, NoSuchProgram}
 use Rattle.preview_core.specs.Previews.{preview_memory}
 use Rattle.preview_core.specs.Trials.{AreTried, GoesOn, IsNextFree, RefusedTrial, Tried, TriesAll, TriesAt, command_of, is_free, no_inputs, refused_at, token, trial_event}
 use Rattle.preview_core.specs.declared.refused.PreviewRefused.{PreviewRefused}
 use Rattle.preview_core.specs.declared.trial.Trial.{Trial}
-use Rattle.preview_core.specs.declared.trial.Trial.TheVariants.{Cancel, Restore, Replace}
+use Rattle.preview_core.specs.declared.trial.Trial.TheVariants.{Cancel, Restore, Replace, Correct}
 
 -- ---- tokens
 
@@ -54,6 +54,7 @@ by_same s t tok who i j (Some why) = refl
 by_same s (Cancel id) tok who i j None = refl
 by_same s (Restore id) tok who i j None = refl
 by_same s (Replace id method path body) tok who i j None = refl
+by_same s (Correct k p) tok who i j None = refl
 
 where_same : (s : Kept) (t : Trial) (tok who : List ℕ) (i j : Inputs) (o : Option OrderedRow) → order_where s (command_of t) tok who i o ≡ order_where s (command_of t) tok who j o
 where_same s t tok who i j (Some o) = refl
@@ -90,6 +91,7 @@ module _ (journal : List Row) (who : List ℕ) (at last : ℕ) (s now : Kept) (t
   refused_trial (NotOutside id) does = (n, next, NotOutside id, sym (ap (λ (e : After (Result Ordered OrderRefused)). e.answer) (does ∙ same_event)), refl)
   refused_trial (TooOld id) does = (n, next, TooOld id, sym (ap (λ (e : After (Result Ordered OrderRefused)). e.answer) (does ∙ same_event)), refl)
   refused_trial (NotQuiet id) does = (n, next, NotQuiet id, sym (ap (λ (e : After (Result Ordered OrderRefused)). e.answer) (does ∙ same_event)), refl)
+  refused_trial (NoSuchProgram k) does = (n, next, NoSuchProgram k, sym (ap (λ (e : After (Result Ordered OrderRefused)). e.answer) (does ∙ same_event)), refl)
 
 -- ---- all trials
 
@@ -145,6 +147,7 @@ order_keeps s t tok who i None (Some why) is = ap (λ x. (order_by s (command_of
 order_keeps s (Cancel id) tok who i None None is = ap (λ x. (order_by s (command_of (Cancel id)) tok who i x).service.registers) is
 order_keeps s (Restore id) tok who i None None is = ap (λ x. (order_by s (command_of (Restore id)) tok who i x).service.registers) is
 order_keeps s (Replace id method path body) tok who i None None is = ap (λ x. (order_by s (command_of (Replace id method path body)) tok who i x).service.registers) is
+order_keeps s (Correct k p) tok who i None None is = ap (λ x. (order_by s (command_of (Correct k p)) tok who i x).service.registers) is
 
 trial_keeps : (who : List ℕ) (s : Kept) (t : Trial) (n : ℕ) → (trial_event who s t n).service.registers ≡ s.registers
 trial_keeps who s t n = order_keeps s t (token n) who no_inputs (ordered (token n) s.journal) (refused s (command_of t) who) refl

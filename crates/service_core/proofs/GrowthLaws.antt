@@ -13,11 +13,10 @@ use Rattle.request_log.specs.declared.entry.Entry.{Entry}
 use Rattle.repair_messages.specs.declared.messages.SetMessage.{SetMessage}
 use Rattle.journal_rows.specs.Words.{last_taken, ordered}
 use Rattle.journal_rows.specs.declared.callee.TookRow.{TookRow}
-use Rattle.journal_rows.specs.declared.row.Row.TheVariants.{Asked}
 use Rattle.service_events.specs.Arriving.{admitted, arrives_or_known, by_version, known_by, new_flight, unless_gone}
 use Rattle.service_events.specs.Event.{event, is_lacking, Happens}
-use Rattle.service_events.specs.Messages.{acked_again, acked_row, is_known, is_too_much, origin_of, take_admitted, take_new, taken, taken_by, took_row}
-use Rattle.service_events.specs.State.{After, Kept, after, answers, base, is_crowded, is_heavy, next_id, or_else, unfolded}
+use Rattle.service_events.specs.Messages.{acked_again, acked_row, created_row, is_known, is_too_much, origin_of, take_admitted, take_new, taken, taken_by, took_row}
+use Rattle.service_events.specs.State.{After, Kept, after, answers, base, is_crowded, is_heavy, or_else, unfolded}
 use Rattle.service_events.specs.Steps.{Stale, answer_rows, new_record, sent_rows, stale_in, step_by}
 use Rattle.service_events.specs.declared.answers.Arrived.{Arrived}
 use Rattle.service_events.specs.declared.refusals.ArriveRefused.{ArriveRefused}
@@ -29,7 +28,7 @@ use Rattle.service_events.proofs.CallLaws.{Grows}
 use Rattle.service_events.proofs.EventLaws.{event_goes}
 use Rattle.service_events.proofs.GoingLaws.{goes_on_goes}
 use Rattle.journal_rows.specs.declared.orders.Command.{Command}
-use Rattle.journal_rows.specs.declared.orders.Command.TheVariants.{Cancel, Restore, Replace, Create, Retry, Fold}
+use Rattle.journal_rows.specs.declared.orders.Command.TheVariants.{Cancel, Restore, Replace, Create, Retry, Fold, Deploy, Correct, Rules}
 use Rattle.journal_rows.specs.declared.orders.OrderedRow.{OrderedRow}
 use Rattle.repair_messages.specs.declared.posts.PostName.TheVariants.{Call as OfCall, Reply as OfReply, Fetch as OfFetch}
 use Rattle.service_events.specs.Orders.{carried_out, order_by, order_rows, order_where, refused}
@@ -56,7 +55,7 @@ step_by_grows s (Some x) =
 taken_grows : (s : Kept) (set : SetMessage) (i : Inputs) (e : Option Entry) (d : Option Request) → Grows s (taken_by s set i e d)
 taken_grows s set i (Some e) d = record { rows = took_row s set ∷ (acked_row set ∷ []); is = refl; setting = refl }
 taken_grows s set i None (Some q) =
-    record { rows = took_row s set ∷ (Asked (record { id = next_id s; origin = origin_of set; request = q; inputs = i }) ∷ (acked_row set ∷ [])); is = refl; setting = refl }
+    record { rows = took_row s set ∷ (created_row s set q i ∷ (acked_row set ∷ [])); is = refl; setting = refl }
 taken_grows s set i None None = record { rows = took_row s set ∷ (acked_row set ∷ []); is = refl; setting = refl }
 
 take_admitted_grows : (s : Kept) (set : SetMessage) (i : Inputs) (n : Option ℕ) → LeavesGrown s (take_admitted s set i n)
@@ -104,6 +103,9 @@ same_setting s (Retry (OfCall number)) who i = refl
 same_setting s (Retry (OfReply id)) who i = refl
 same_setting s (Retry (OfFetch number)) who i = refl
 same_setting s (Fold id) who i = refl
+same_setting s (Deploy p) who i = refl
+same_setting s (Correct k p) who i = refl
+same_setting s (Rules g) who i = refl
 
 order_by_grows : (s : Kept) (command : Command) (token who : List ℕ) (i : Inputs) (o : Option OrderRefused) → Grows s (order_by s command token who i o).service
 order_by_grows s command token who i (Some why) = grows_none s

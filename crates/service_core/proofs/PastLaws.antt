@@ -1,81 +1,80 @@
--- Folded entries stay as they are, and a fold leaves all that is read, replayed or audited of a service as it was.
-use Rattle.std.proofs.Common.{◌≡◌, ℕ, not, ◌&&◌, List, [], ◌∷◌, ◌++◌, Option, Some, None, Result, find, length, map, take, drop, option_map, take-append-drop, refl, sym, ap, ◌∙◌, inl, inr, arith}
+-- Folded entries stay as they are; a fold leaves all that is read, replayed or audited of a service as it was, a program or rules from now on leave
+-- every entry, and a program in the place of another one every record.
+use Rattle.std.proofs.Common.{◌≡◌, ◌↔◌, ℕ, ◌+◌, ◌<◌, not, ◌&&◌, List, [], ◌∷◌, ◌++◌, Option, Some, None, Result, find, get_or, length, map, take, drop, option_map, take-append-drop, refl, sym, ap, ◌∙◌, subst, inl, inr, arith}
 use Rattle.std.specs.List.{list_all}
-use Rattle.std.proofs.lemmas.Bool.{and_parts, cases_Bool}
+use Rattle.std.proofs.lemmas.Bool.{and_parts, cases_Bool, cond_both}
+use Rattle.std.proofs.lemmas.List.{get_or-map, map-append}
 use Rattle.std.proofs.lemmas.List.Sums.{fold-append}
 use Rattle.lang_core.specs.declared.cells.Cell.{Cell}
 use Rattle.lang_core.specs.declared.inputs.Inputs.{Inputs}
-use Rattle.request_log.specs.Entries.{has_id}
-use Rattle.request_log.specs.Folded.{as_entry, bare, bare_by, folded_with}
-use Rattle.request_log.specs.Records.{Record, record_in, record_of}
+use Rattle.lang_tree.specs.declared.program.Route.{Route}
+use Rattle.lang_programs.specs.Numbered.{Numbered}
+use Rattle.request_log.specs.Entries.{corrected, has_id, has_program, with_correction}
+use Rattle.request_log.specs.Folded.{bare, bare_by}
+use Rattle.request_log.specs.Records.{Record, record_of}
 use Rattle.request_log.specs.declared.entry.Entry.{Entry}
-use Rattle.request_log.specs.declared.entry.Made.{Made}
-use Rattle.local_repair.specs.Current.{Consumed, after_entry, rows_after}
+use Rattle.local_repair.specs.Corrections.{IsCurrentButHandler}
+use Rattle.local_repair.specs.Current.{Consumed, IsCurrent, after_entry, rows_after}
 use Rattle.local_repair.specs.Histories.{act_of, deed_in}
+use Rattle.local_repair.specs.Programs.{HasItsHandler}
 use Rattle.local_repair.specs.Repairs.{stale_id}
 use Rattle.local_repair.specs.Tests.{first_stale as first_in, is_current}
+use Rattle.local_repair.proofs.CorrectionLemmas.{current_by_handler, stale_after}
+use Rattle.authorise_rules.specs.Given.{GivenRules}
 use Rattle.journal_rows.specs.Words.{ordered}
 use Rattle.journal_rows.specs.declared.orders.Command.{Command}
-use Rattle.journal_rows.specs.declared.orders.Command.TheVariants.{Cancel, Restore, Replace, Create, Retry, Fold}
+use Rattle.journal_rows.specs.declared.orders.Command.TheVariants.{Cancel, Restore, Replace, Create, Retry, Fold, Deploy, Correct, Rules}
 use Rattle.journal_rows.specs.declared.orders.OrderedRow.{OrderedRow}
+use Rattle.flights.specs.Corrections.{corrected_flight, has_program as flies_under}
+use Rattle.flights.specs.declared.flight.Flight.{Flight}
 use Rattle.service_events.specs.Calls.{noted}
 use Rattle.service_events.specs.Doing.{order_memory, Does}
 use Rattle.service_events.specs.Event.{Happens}
 use Rattle.service_events.specs.Fits.{Fits}
-use Rattle.service_events.specs.Orders.{carried_out, entry_of, first_unquiet, folded_on, is_due, is_quiet_call, is_quiet_entry, order_by, order_event, order_rows, order_where, refused, to_fold}
-use Rattle.service_events.specs.State.{Kept, KeepsFolded, answers, base, unfolded}
+use Rattle.service_events.specs.Orders.{brought, carried_out, entry_of, first_unquiet, folded_on, is_due, is_quiet_call, is_quiet_entry, order_by, order_event, order_rows, order_where, refused, to_fold}
+use Rattle.service_events.specs.State.{Kept, KeepsFolded, answers, base, folded, unfolded}
 use Rattle.service_events.specs.declared.answers.Ordered.{Ordered}
 use Rattle.service_events.specs.declared.event.Done.{Done}
 use Rattle.service_events.specs.declared.event.Event.{Event}
 use Rattle.service_events.specs.declared.event.Event.TheVariants as events
 use Rattle.service_events.specs.declared.refusals.OrderRefused.{OrderRefused}
+use Rattle.service_events.proofs.CorrectLaw.{corrected_unfolded}
 use Rattle.service_events.proofs.EventLaws.{event_keeps}
-use Rattle.service_events.proofs.FoldLaw.{AreAlike, IsAlike, entries_alike, first, then_unfolded}
+use Rattle.service_events.proofs.FoldLaw.{first, then_unfolded}
+use Rattle.service_events.proofs.HorizonLemmas.{all_entries}
 use Rattle.service_events.proofs.OrderLaw.{IsNamed, quiet_by, to_fold_is, well_named}
 use Rattle.service_parts.proofs.DoneLaws.{left_done}
-use Rattle.service_core.specs.Past.{EventKeeps, IfFold, OrderKeeps, ReadsAsBefore}
+use Rattle.service_core.specs.Past.{CommandKeeps, EventKeeps, IsFresh, IsFreshButHandler, LeavesAll, LeavesRecords, OrderKeeps, ReadsAsBefore, as_recorded, flying_under}
 use Rattle.service_core.specs.Readings.{first_stale}
 use Rattle.service_core.proofs.GrowthLaws.{left_by}
 
--- ---- entries that are alike
+-- ---- entries that are bare
+
+bare_twice : (e : Entry) → bare (bare e) ≡ bare e
+bare_twice e = by (record_of e) refl
+  where
+    by : (o : Option Record) → record_of e ≡ o → bare (bare_by e o) ≡ bare_by e o
+    by None is = ap (bare_by e) is
+    by (Some r) is = refl
 
 -- they are the same request of a history
-act_alike : (consumed : Consumed) (x y : Entry) → IsAlike x y → act_of consumed y ≡ act_of consumed x
-act_alike consumed x y a =
-    ap (λ (e : Entry). record (act_of consumed e) { did = option_map deed_in (record_of y) }) a.same
-    ∙ ap (λ (o : Option Record). record (act_of consumed x) { did = option_map deed_in o }) a.seen
-
-acts_alike : (consumed : Consumed) (xs ys : List Entry) → AreAlike xs ys → map (act_of consumed) ys ≡ map (act_of consumed) xs
-acts_alike consumed [] [] h = refl
-acts_alike consumed [] (y ∷ ys) h = absurd h
-acts_alike consumed (x ∷ xs) [] h = absurd h
-acts_alike consumed (x ∷ xs) (y ∷ ys) h =
-    let one = act_alike consumed x y h.0 in
-    let later = acts_alike consumed xs ys h.1 in
-    (λ i. one i ∷ later i)
-
-no_record : (o : Option Made) → option_map record_in o ≡ None → o ≡ None
-no_record None h = refl
-no_record (Some m) h = cc
-
--- and the same but for what they read and wrote
-bare_alike : (x y : Entry) → IsAlike x y → bare y ≡ bare x
-bare_alike x y a = ap (bare_by y) a.seen ∙ by x.made refl
+act_bare : (consumed : Consumed) (e : Entry) → act_of consumed (bare e) ≡ act_of consumed e
+act_bare consumed e = by (record_of e) refl
   where
-    by : (o : Option Made) → x.made ≡ o → bare_by y (option_map record_in o) ≡ bare_by x (option_map record_in o)
-    by (Some m) is = ap (λ (e : Entry). as_entry (folded_with e (record_in m))) a.same
-    by None is =
-        let none : y.made ≡ None = no_record y.made (a.seen ∙ ap (option_map record_in) is) in
-        a.same ∙ ap (λ (o : Option Made). record x { made = o }) (none ∙ sym is)
+    by : (o : Option Record) → record_of e ≡ o → act_of consumed (bare_by e o) ≡ act_of consumed e
+    by None is = refl
+    by (Some r) is = ap (λ (x : Option Record). record (act_of consumed e) { did = option_map deed_in x }) (sym is)
 
-bares_alike : (xs ys : List Entry) → AreAlike xs ys → map bare ys ≡ map bare xs
-bares_alike [] [] h = refl
-bares_alike [] (y ∷ ys) h = absurd h
-bares_alike (x ∷ xs) [] h = absurd h
-bares_alike (x ∷ xs) (y ∷ ys) h =
-    let one = bare_alike x y h.0 in
-    let later = bares_alike xs ys h.1 in
-    (λ i. one i ∷ later i)
+-- what a change leaves of each item it leaves of all
+map_as : {X Y : Type 0} (g : X → Y) (f : X → X) → ((x : X) → g (f x) ≡ g x) → (xs : List X) → map g (map f xs) ≡ map g xs
+map_as g f same [] = refl
+map_as g f same (x ∷ xs) = let here = same x in let rest = map_as g f same xs in (λ i. here i ∷ rest i)
+
+-- of the first ones that are bare
+first_bare : {Y : Type 0} (g : Entry → Y) → ((e : Entry) → g (bare e) ≡ g e) → (k : ℕ) (es : List Entry) → map g (map bare (take k es) ++ drop k es) ≡ map g es
+first_bare g same k es =
+    map-append g (map bare (take k es)) (drop k es) ∙ ap (λ ys. ys ++ map g (drop k es)) (map_as g bare same (take k es))
+    ∙ sym (map-append g (take k es) (drop k es)) ∙ ap (map g) (take-append-drop k es)
 
 -- ---- a fold
 
@@ -100,9 +99,6 @@ module _ (s : Kept) (f : Fits s) (id : ℕ) (token who : List ℕ) (i : Inputs) 
   quiet : first_unquiet s (base s) (to_fold id s) ≡ None
   quiet = quiet_by (first_unquiet s (base s) (to_fold id s)) named.1
 
-  alike : AreAlike s.entries (folded_on (length (to_fold id s)) s).entries
-  alike = entries_alike s f id there.0 there.1 quiet
-
   behind : unfolded (folded_on (length (to_fold id s)) s) ≡ drop (length (to_fold id s)) (unfolded s)
   behind = then_unfolded s f id there.0 there.1 quiet
 
@@ -123,14 +119,14 @@ module _ (s : Kept) (f : Fits s) (id : ℕ) (token who : List ℕ) (i : Inputs) 
 
   fold_reads : ReadsAsBefore s once
   fold_reads = record {
-    entries = bares_alike s.entries once.entries alike;
-    history = acts_alike (answers s) s.entries once.entries alike;
+    entries = first_bare bare bare_twice (s.horizon + length (to_fold id s)) s.entries;
+    history = first_bare (act_of (answers s)) (act_bare (answers s)) (s.horizon + length (to_fold id s)) s.entries;
     rows = rows_stay;
     stale = stale_stays;
     others = refl;
   }
 
--- ---- orders
+-- ---- where nothing changed
 
 keeps_all : (s : Kept) → KeepsFolded s s
 keeps_all s = record { within = omega arith; entries = refl }
@@ -138,38 +134,151 @@ keeps_all s = record { within = omega arith; entries = refl }
 reads_same : (s : Kept) → ReadsAsBefore s s
 reads_same s = record { entries = refl; history = refl; rows = refl; stale = refl; others = refl }
 
-if_fold : (command : Command) (P : Type 0) → P → IfFold command P
-if_fold (Fold id) P p = p
-if_fold (Cancel id) P p = tt
-if_fold (Restore id) P p = tt
-if_fold (Replace id method path body) P p = tt
-if_fold (Create before after q) P p = tt
-if_fold (Retry name) P p = tt
+-- ---- a program or rules from now on
+
+leaves_all_same : (s : Kept) → LeavesAll s s
+leaves_all_same s = record {
+  entries = refl;
+  flights = refl;
+  fresh = λ rows e. (λ h. h, λ h. h);
+  stale = refl;
+  rows = refl;
+  history = refl;
+  others = refl;
+}
+
+deployed_leaves : (s : Kept) (p : List Route) (token who : List ℕ) (i : Inputs)
+    → LeavesAll s (noted (order_rows s (Deploy p) token who i) (carried_out s (Deploy p) who i))
+deployed_leaves s p token who i = record {
+  entries = refl;
+  flights = refl;
+  fresh = λ rows e. (λ h. h, λ h. h);
+  stale = refl;
+  rows = refl;
+  history = refl;
+  others = refl;
+}
+
+ruled_leaves : (s : Kept) (g : GivenRules) (token who : List ℕ) (i : Inputs)
+    → LeavesAll s (noted (order_rows s (Rules g) token who i) (carried_out s (Rules g) who i))
+ruled_leaves s g token who i = record {
+  entries = refl;
+  flights = refl;
+  fresh = λ rows e. (λ h. h, λ h. h);
+  stale = refl;
+  rows = refl;
+  history = refl;
+  others = refl;
+}
+
+-- ---- a program in the place of another one
+
+-- an entry is fresh where its handler is that of its record and nothing else makes it stale
+fresh_is : (consumed : Consumed) (rows : List Cell) (e : Entry) → IsCurrent consumed rows e ↔ (IsCurrentButHandler consumed rows e × HasItsHandler e)
+fresh_is consumed rows e =
+    current_by_handler consumed rows e e
+    (record { alive = refl; version = refl; request = refl; inputs = refl; slots = refl; made = refl; ran = refl })
+
+leaves_records_same : (s : Kept) → LeavesRecords s s
+leaves_records_same s = record {
+  entries = refl;
+  flights = λ p. refl;
+  stale = λ place d within. fresh_is (answers s) (rows_after (base s) (take place (unfolded s))) (get_or (unfolded s) place d);
+  rows = refl;
+  others = refl;
+}
+
+module _ (k : ℕ) (m : Numbered) where
+  record_stays : (e : Entry) → as_recorded (corrected k m e) ≡ as_recorded e
+  record_stays e = cond_both (has_program k e) (with_correction m e) e (λ x. as_recorded x ≡ as_recorded e) (λ _. refl) (λ _. refl)
+
+  flight_stays : (p : Numbered) (f : Flight) → flying_under p (corrected_flight k m f) ≡ flying_under p f
+  flight_stays p f = cond_both (flies_under k f) (record f { program = m }) f (λ x. flying_under p x ≡ flying_under p f) (λ _. refl) (λ _. refl)
+
+  writes_stay : (rows : List Cell) (e : Entry) → after_entry rows (corrected k m e) ≡ after_entry rows e
+  writes_stay rows e = cond_both (has_program k e) (with_correction m e) e (λ x. after_entry rows x ≡ after_entry rows e) (λ _. refl) (λ _. refl)
+
+  rows_stay_too : (rows : List Cell) (es : List Entry) → rows_after rows (map (corrected k m) es) ≡ rows_after rows es
+  rows_stay_too rows [] = refl
+  rows_stay_too rows (e ∷ es) =
+      rows_stay_too (after_entry rows (corrected k m e)) es ∙ ap (λ r. rows_after r es) (writes_stay rows e)
+
+  -- behind the folded entries
+  records_behind : (es fs : List Entry) → map as_recorded (fs ++ map (corrected k m) es) ≡ map as_recorded (fs ++ es)
+  records_behind es fs =
+      map-append as_recorded fs (map (corrected k m) es) ∙ ap (λ xs. map as_recorded fs ++ xs) (map_as as_recorded (corrected k m) record_stays es)
+      ∙ sym (map-append as_recorded fs es)
+
+module _ (s : Kept) (f : Fits s) (k : ℕ) (p : List Route) (token who : List ℕ) (i : Inputs) where
+  abbrev program : Numbered
+  program = brought s p
+
+  abbrev put : Kept
+  put = noted (order_rows s (Correct k p) token who i) (carried_out s (Correct k p) who i)
+
+  put_behind : unfolded put ≡ map (corrected k program) (unfolded s)
+  put_behind = corrected_unfolded s k program f.horizon.within
+
+  stale_by_handler : (place : ℕ) (d : Entry) → place < length (unfolded s)
+      → IsFresh put place (get_or (unfolded put) place d)
+      ↔ (IsFreshButHandler s place (get_or (unfolded s) place d) × HasItsHandler (get_or (unfolded put) place d))
+  stale_by_handler place d within =
+      let there : get_or (unfolded put) place d ≡ corrected k program (get_or (unfolded s) place d) =
+      ap (λ l. get_or l place d) put_behind ∙ get_or-map (corrected k program) (unfolded s) place d d within in
+      let P : Entry → Type 0 = λ x.
+      IsFresh put place (get_or (unfolded put) place d) ↔ (IsFreshButHandler s place (get_or (unfolded s) place d) × HasItsHandler x) in
+      subst P (sym there) (stale_after k program (base s) (unfolded s) (unfolded put) put_behind (answers s) place d within)
+
+  corrected_leaves : LeavesRecords s put
+  corrected_leaves = record {
+    entries = records_behind k program (unfolded s) (folded s) ∙ ap (map as_recorded) (all_entries s);
+    flights = λ q. map_as (flying_under q) (corrected_flight k program) (flight_stays k program q) s.flights;
+    stale = stale_by_handler;
+    rows = ap (rows_after (base s)) put_behind ∙ rows_stay_too k program (base s) (unfolded s);
+    others = refl;
+  }
+
+-- ---- orders
+
+-- what is said of an order holds where nothing changed
+command_keeps_same : (command : Command) (s : Kept) → CommandKeeps command s s
+command_keeps_same (Fold id) s = reads_same s
+command_keeps_same (Deploy p) s = leaves_all_same s
+command_keeps_same (Rules g) s = leaves_all_same s
+command_keeps_same (Correct k p) s = leaves_records_same s
+command_keeps_same (Cancel id) s = tt
+command_keeps_same (Restore id) s = tt
+command_keeps_same (Replace id method path body) s = tt
+command_keeps_same (Create before after q) s = tt
+command_keeps_same (Retry name) s = tt
 
 order_keeps_all : (command : Command) (s : Kept) → OrderKeeps command s s
-order_keeps_all command s = (keeps_all s, if_fold command (ReadsAsBefore s s) (reads_same s))
+order_keeps_all command s = (keeps_all s, command_keeps_same command s)
 
-ordered_reads : (s : Kept) → Fits s → (command : Command) (token who : List ℕ) (i : Inputs) → IsNamed s command
-    → IfFold command (ReadsAsBefore s (noted (order_rows s command token who i) (carried_out s command who i)))
-ordered_reads s f (Fold id) token who i named = fold_reads s f id token who i named
-ordered_reads s f (Cancel id) token who i named = tt
-ordered_reads s f (Restore id) token who i named = tt
-ordered_reads s f (Replace id method path body) token who i named = tt
-ordered_reads s f (Create before after q) token who i named = tt
-ordered_reads s f (Retry name) token who i named = tt
+carried_keeps : (s : Kept) → Fits s → (command : Command) (token who : List ℕ) (i : Inputs) → IsNamed s command
+    → CommandKeeps command s (noted (order_rows s command token who i) (carried_out s command who i))
+carried_keeps s f (Fold id) token who i named = fold_reads s f id token who i named
+carried_keeps s f (Deploy p) token who i named = deployed_leaves s p token who i
+carried_keeps s f (Rules g) token who i named = ruled_leaves s g token who i
+carried_keeps s f (Correct k p) token who i named = corrected_leaves s f k p token who i
+carried_keeps s f (Cancel id) token who i named = tt
+carried_keeps s f (Restore id) token who i named = tt
+carried_keeps s f (Replace id method path body) token who i named = tt
+carried_keeps s f (Create before after q) token who i named = tt
+carried_keeps s f (Retry name) token who i named = tt
 
-order_by_reads : (s : Kept) → Fits s → (command : Command) (token who : List ℕ) (i : Inputs) (o : Option OrderRefused) → refused s command who ≡ o
-    → IfFold command (ReadsAsBefore s (order_by s command token who i o).service)
-order_by_reads s f command token who i (Some why) is = if_fold command (ReadsAsBefore s s) (reads_same s)
-order_by_reads s f command token who i None is = ordered_reads s f command token who i (well_named s command who is)
+order_by_keeps : (s : Kept) → Fits s → (command : Command) (token who : List ℕ) (i : Inputs) (o : Option OrderRefused) → refused s command who ≡ o
+    → CommandKeeps command s (order_by s command token who i o).service
+order_by_keeps s f command token who i (Some why) is = command_keeps_same command s
+order_by_keeps s f command token who i None is = carried_keeps s f command token who i (well_named s command who is)
 
-order_where_reads : (s : Kept) → Fits s → (command : Command) (token who : List ℕ) (i : Inputs) (o : Option OrderedRow)
-    → IfFold command (ReadsAsBefore s (order_where s command token who i o).service)
-order_where_reads s f command token who i (Some o) = if_fold command (ReadsAsBefore s s) (reads_same s)
-order_where_reads s f command token who i None = order_by_reads s f command token who i (refused s command who) refl
+order_where_keeps : (s : Kept) → Fits s → (command : Command) (token who : List ℕ) (i : Inputs) (o : Option OrderedRow)
+    → CommandKeeps command s (order_where s command token who i o).service
+order_where_keeps s f command token who i (Some o) = command_keeps_same command s
+order_where_keeps s f command token who i None = order_by_keeps s f command token who i (refused s command who) refl
 
 order_leaves : (s : Kept) → Fits s → (command : Command) (token who : List ℕ) (i : Inputs) → OrderKeeps command s (order_event s command token who i).service
-order_leaves s f command token who i = (event_keeps s (events.Order command token who i) f, order_where_reads s f command token who i (ordered token s.journal))
+order_leaves s f command token who i = (event_keeps s (events.Order command token who i) f, order_where_keeps s f command token who i (ordered token s.journal))
 
 -- a call that makes one keeps what it keeps
 pub order_keeps : (s t : Kept) (command : Command) (token who : List ℕ) (i : Inputs) (result : Result Ordered OrderRefused) → Fits s

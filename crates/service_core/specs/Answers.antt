@@ -28,7 +28,7 @@ use Rattle.service_posts.specs.Goes.{GoesTo}
 use Rattle.service_repairs.specs.Answers.{Steps}
 
 abbrev pub Arrives : Kept → Origin → Request → Inputs → Done → Kept → Type 0
-Arrives s o q i (done.Arrive result) t = Does arrive_memory (arrive_event s o q i) s result t × Commits o q i s result t
+Arrives s o q i (done.Arrive result) t = Does arrive_memory (arrive_event s o q i) s result t × Commits o q i s.newest s result t
 Arrives s o q i answer t = ⊥
 
 abbrev pub IsAnswered : Kept → ℕ → AnswerMessage → Done → Kept → Type 0

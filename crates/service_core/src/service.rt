@@ -266,7 +266,7 @@ impl Service {
 
     /// A live request arrives. It runs, and is committed or waits for a call; or it is a call that has an entry. It is
     /// refused where it is a call in flight, one that was deleted or one whose entry never ran, and where there is too
-    /// much. What is committed is this request, under the number and the index that are told.
+    /// much. What is committed is this request, under the newest program, the number and the index that are told.
     pub fn arrive(
         &mut self,
         alloc: Global,
@@ -275,7 +275,7 @@ impl Service {
         inputs: Inputs,
     ) -> Result<Arrived, ArriveRefused>
         ensures does { Does arrive_memory (arrive_event self.old origin request inputs) self.old result self.new }
-        ensures commits { Commits origin request inputs self.old result self.new }
+        ensures commits { Commits origin request inputs self.old.newest self.old result self.new }
         ensures goes { IfOk result (λ arrived. Begins self.old (new_flight self.old origin request inputs) arrived self.new) }
         ensures told { OnOk result (AddsCauses (causes self.old) false self.new) }
     {
@@ -284,7 +284,7 @@ impl Service {
     }
 
     /// The call for which a flight waits was answered: the flight goes on, and where it is committed it is with the request
-    /// and the inputs with which it arrived. It is refused where the flight isn't there, or waits for another call or another
+    /// and the inputs with which it arrived, under the program that it has. It is refused where the flight isn't there, or waits for another call or another
     /// version of it.
     pub fn call_answered(
         &mut self,

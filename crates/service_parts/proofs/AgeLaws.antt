@@ -169,7 +169,7 @@ took_none (Call c n) q = (tt, tt)
 before_none : (s : Kept) (f : Flight) (t : Trace) → Each MarksNone (before_answer s f t)
 before_none s f t =
     let surplus = surplus_rows s f t in
-    let asks = Asked (record { id = next_id s; origin = f.origin; request = f.request; inputs = f.inputs }) ∷ took_rows f.origin f.request in
+    let asks = Asked (record { id = next_id s; origin = f.origin; request = f.request; inputs = f.inputs; program = f.program.number }) ∷ took_rows f.origin f.request in
     let sends = sends_deleted s.registers (drop (length t.calls) f.numbers) (drop (length t.calls) f.calls) in
     each_append MarksNone surplus asks (each_weaker IsSending MarksNone sending_none surplus sends) (tt, took_none f.origin f.request)
 

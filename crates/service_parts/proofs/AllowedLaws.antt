@@ -1,4 +1,4 @@
--- Each event keeps that each repair in the journal was allowed by the service's rules, as things stood before it.
+-- Each event keeps that each repair in the journal was allowed by the service's rules, as things and these rules stood before it.
 use Rattle.std.proofs.Common.{◌≡◌, ℕ, suc, zero, Bool, true, false, not, List, [], ◌∷◌, ◌++◌, Option, Some, None, IsSomeAnd, Result, Ok, Err, drop, length, nat_eq, nat_le, option_map, slice_get, refl, sym, ap, ◌∙◌, subst, if◌then◌else◌, cond}
 use Rattle.std.proofs.lemmas.Bool.{cond_both}
 use Rattle.lang_base.specs.Texts.{same_text}
@@ -26,16 +26,18 @@ use Rattle.repair_messages.specs.declared.posts.PostName.TheVariants.{Call as Of
 use Rattle.authorise_rules.specs.Deciding.{decision}
 use Rattle.authorise_rules.specs.declared.asked.Decision.{Decision}
 use Rattle.authorise_rules.specs.declared.asked.Decision.TheVariants.{Allow, Deny}
+use Rattle.authorise_rules.specs.Given.{GivenRules}
 use Rattle.authorise_rules.specs.declared.rule.Rule.{Rule}
+use Rattle.journal_rows.specs.Programs.{rules_now}
 use Rattle.journal_rows.specs.Words.{last_sent, last_taken, noted_at, ordered}
 use Rattle.journal_rows.specs.declared.callee.TookRow.{TookRow}
 use Rattle.journal_rows.specs.declared.caller.NotedRow.{NotedRow}
 use Rattle.journal_rows.specs.declared.caller.SentRow.{SentRow}
 use Rattle.journal_rows.specs.declared.orders.Command.{Command}
-use Rattle.journal_rows.specs.declared.orders.Command.TheVariants.{Cancel, Restore, Replace, Create, Retry, Fold}
+use Rattle.journal_rows.specs.declared.orders.Command.TheVariants.{Cancel, Restore, Replace, Create, Retry, Fold, Deploy, Correct, Rules}
 use Rattle.journal_rows.specs.declared.orders.OrderedRow.{OrderedRow}
 use Rattle.journal_rows.specs.declared.row.Row.{Row}
-use Rattle.journal_rows.specs.declared.row.Row.TheVariants.{Asked, Answered, Sent}
+use Rattle.journal_rows.specs.declared.row.Row.TheVariants.{Asked, Answered, Sent, Ordered as OrderedAs}
 use Rattle.call_registers.specs.Registers.{register, next_number, is_news, is_newer}
 use Rattle.call_registers.specs.declared.register.Hold.{Hold}
 use Rattle.call_registers.specs.declared.register.Register.{Register}
@@ -44,14 +46,14 @@ use Rattle.flights.specs.Moves.{calls_in, next_move}
 use Rattle.flights.specs.declared.flight.Flight.{Flight}
 use Rattle.flights.specs.declared.flight.Move.{Move}
 use Rattle.flights.specs.declared.flight.Move.TheVariants.{Commit, Name, Change}
-use Rattle.service_events.specs.Allowed.{Allowed, AllowedOn, IsAllowed}
+use Rattle.service_events.specs.Allowed.{Allowed, AllowedOn, AllowedThen, IsAllowed}
 use Rattle.service_events.specs.Arriving.{abandoned, accepted, admitted, answered_flight, arrives_or_known, by_version, failed_flight, is_for, is_new_to, known_by, live_answer_rows, new_flight, seen_live, told, unless_gone}
 use Rattle.service_events.specs.Calls.{all_deleted, named, noted}
 use Rattle.service_events.specs.Event.{event}
 use Rattle.service_events.specs.Fits.{EachAfter, Fits, sent_by}
 use Rattle.service_events.specs.Flying.{awaited, before_answer, call_or_none, change_rows, changed, changed_unsent, committed, completed, completing, flight_run, goes_on, live_answer, moved, named_unsent, surplus_rows, took_rows, waits, wanted_of, with_change, with_slot}
-use Rattle.service_events.specs.Messages.{acked_again, acked_row, token_taken_where, fetched_row, fetched, confirmed_row, hear_decision, hear_denied, hear_allowed, hear_new, hear_rule, heard, held_back, held_where, hold_of, is_known, is_now, is_too_much, origin_of, posted, saw_ack_row, noted_row, take_admitted, take_allowed, take_decision, take_denied, take_new, take_rule, taken, taken_by, took_row, was_confirmed_row, is_past_call, take_unless_past}
-use Rattle.service_events.specs.Orders.{asked_rows, carried_out, is_too_much as is_too_much_for, misnamed, order_by, order_decision, order_rows, order_rule, order_where, refused, request_put, subject, unless_allowed, unless_quiet}
+use Rattle.service_events.specs.Messages.{acked_again, acked_row, created_row, token_taken_where, fetched_row, fetched, confirmed_row, hear_decision, hear_denied, hear_allowed, hear_new, hear_rule, heard, held_back, held_where, hold_of, is_known, is_now, is_too_much, origin_of, posted, saw_ack_row, noted_row, take_admitted, take_allowed, take_decision, take_denied, take_new, take_rule, taken, taken_by, took_row, was_confirmed_row, is_past_call, take_unless_past}
+use Rattle.service_events.specs.Orders.{about, asked_rows, carried_out, is_too_much as is_too_much_for, misnamed, order_by, order_decision, order_rows, order_rule, order_where, original, refused, repaired, request_put, subject, unless_allowed, unless_quiet}
 use Rattle.service_events.specs.Questions.{answer_question, command_question, is_denied, rule_of, version_question}
 use Rattle.service_events.specs.State.{Kept, After, after, answers, base, flight_of, fresh, is_crowded, is_heavy, next_id, or_else, unfolded, folded}
 use Rattle.service_events.specs.Steps.{answer_rows, new_record, sent_rows, Stale, stale_in, step_by}
@@ -84,19 +86,20 @@ sending_free : (row : Row) → IsSending row → IsFree row
 sending_free (Sent s) h = λ rules before. tt
 sending_free row h = absurd h
 
-free_follow : (rules : List Rule) (rows before : List Row) → Each IsFree rows → EachAfter (AllowedOn rules) before rows
-free_follow rules rows before free = kind_follows (AllowedOn rules) IsFree (λ before row free. free rules before) rows before free
+free_follow : (began : GivenRules) (rows before : List Row) → Each IsFree rows → EachAfter (AllowedThen began) before rows
+free_follow began rows before free =
+    kind_follows (AllowedThen began) IsFree (λ before row free. free (rules_now began before).rules before) rows before free
 
 -- they may be noted
-stays_by : (s t : Kept) (rows : List Row) → t.rules ≡ s.rules → t.journal ≡ s.journal ++ rows → EachAfter (AllowedOn s.rules) s.journal rows → IsAllowed s → IsAllowed t
+stays_by : (s t : Kept) (rows : List Row) → t.began ≡ s.began → t.journal ≡ s.journal ++ rows → EachAfter (AllowedThen s.began) s.journal rows → IsAllowed s → IsAllowed t
 stays_by s t rows same is follow h =
-    subst (λ rules. Allowed rules t.journal) (sym same)
-    (subst (Allowed s.rules) (sym is) (EachAfter-append (AllowedOn s.rules) s.journal rows [] h follow))
+    subst (λ began. Allowed began t.journal) (sym same)
+    (subst (Allowed s.began) (sym is) (EachAfter-append (AllowedThen s.began) s.journal rows [] h follow))
 
-free_stays : (s t : Kept) (rows : List Row) → t.rules ≡ s.rules → t.journal ≡ s.journal ++ rows → Each IsFree rows → IsAllowed s → IsAllowed t
-free_stays s t rows same is free h = stays_by s t rows same is (free_follow s.rules rows s.journal free) h
+free_stays : (s t : Kept) (rows : List Row) → t.began ≡ s.began → t.journal ≡ s.journal ++ rows → Each IsFree rows → IsAllowed s → IsAllowed t
+free_stays s t rows same is free h = stays_by s t rows same is (free_follow s.began rows s.journal free) h
 
-sending_stays : (s t : Kept) (rows : List Row) → t.rules ≡ s.rules → t.journal ≡ s.journal ++ rows → Each IsSending rows → IsAllowed s → IsAllowed t
+sending_stays : (s t : Kept) (rows : List Row) → t.began ≡ s.began → t.journal ≡ s.journal ++ rows → Each IsSending rows → IsAllowed s → IsAllowed t
 sending_stays s t rows same is sending h = free_stays s t rows same is (each_weaker IsSending IsFree sending_free rows sending) h
 
 -- ---- live requests
@@ -109,7 +112,7 @@ committed_stays : (s : Kept) (f : Flight) (t : Trace) → IsAllowed s → IsAllo
 committed_stays s f t h =
     let surplus = surplus_rows s f t in
     let took = took_rows f.origin f.request in
-    let asks = Asked (record { id = next_id s; origin = f.origin; request = f.request; inputs = f.inputs }) in
+    let asks = Asked (record { id = next_id s; origin = f.origin; request = f.request; inputs = f.inputs; program = f.program.number }) in
     let deleted = each_weaker IsSending IsFree sending_free surplus (sends_deleted s.registers (drop (length t.calls) f.numbers) (drop (length t.calls) f.calls)) in
     free_stays s (committed s f t).service (before_answer s f t ++ live_answer s f t ∷ []) refl refl
     (each_append IsFree (before_answer s f t) (live_answer s f t ∷ [])
@@ -269,21 +272,25 @@ allowed_is : (d : Decision) → is_denied d ≡ false → d ≡ Allow (rule_of d
 allowed_is (Allow rule) h = refl
 allowed_is (Deny rule) h = cc
 
+-- a row that the service's rules allow now may stand behind its journal, which tells of these rules
+allowed_then : (s : Kept) → Fits s → (row : Row) → AllowedOn s.rules.rules s.journal row → AllowedThen s.began s.journal row
+allowed_then s f row allowed = subst (λ (g : GivenRules). AllowedOn g.rules s.journal row) f.programs.rules allowed
+
 -- ---- a version of a call
 
 module _ (s : Kept) (f : Fits s) (set : SetMessage) where
   -- the question by the entries is the question by the journal
-  take_question : is_denied (take_decision s set) ≡ false → AllowedOn s.rules s.journal (took_row s set)
+  take_question : is_denied (take_decision s set) ≡ false → AllowedThen s.began s.journal (took_row s set)
   take_question allowed =
-      subst (λ known. decision s.rules (version_question set.caller set.who known set.desired) ≡ Allow (take_rule s set))
-      (known_as_told s f.asked set.caller set.number) (allowed_is (take_decision s set) allowed)
+      allowed_then s f (took_row s set)
+      (subst (λ known. decision s.rules.rules (version_question set.caller set.who known set.desired) ≡ Allow (take_rule s set))
+      (known_as_told s f.asked set.caller set.number) (allowed_is (take_decision s set) allowed))
 
   taken_stays : (i : Inputs) (e : Option Entry) (d : Option Request) → is_denied (take_decision s set) ≡ false → IsAllowed s → IsAllowed (taken_by s set i e d)
   taken_stays i (Some e) d allowed h =
       stays_by s (taken_by s set i (Some e) d) (took_row s set ∷ (acked_row set ∷ [])) refl refl (take_question allowed, (tt, tt)) h
   taken_stays i None (Some q) allowed h =
-      let asks = Asked (record { id = next_id s; origin = origin_of set; request = q; inputs = i }) in
-      stays_by s (taken_by s set i None (Some q)) (took_row s set ∷ (asks ∷ (acked_row set ∷ []))) refl refl (take_question allowed, (tt, (tt, tt))) h
+      stays_by s (taken_by s set i None (Some q)) (took_row s set ∷ (created_row s set q i ∷ (acked_row set ∷ []))) refl refl (take_question allowed, (tt, (tt, tt))) h
   taken_stays i None None allowed h =
       stays_by s (taken_by s set i None None) (took_row s set ∷ (acked_row set ∷ [])) refl refl (take_question allowed, (tt, tt)) h
 
@@ -306,12 +313,13 @@ module _ (s : Kept) (f : Fits s) (set : SetMessage) where
 
 module _ (s : Kept) (f : Fits s) (a : TokenMessage) (r : Register) (found : register a.number s.registers ≡ Some r) where
   -- the question by the register is the question by the journal
-  hear_question : is_denied (hear_decision s a r) ≡ false → AllowedOn s.rules s.journal (noted_row (hear_rule s a r) a)
+  hear_question : is_denied (hear_decision s a r) ≡ false → AllowedThen s.began s.journal (noted_row (hear_rule s a r) a)
   hear_question allowed =
       let sent : Some (sent_by r) ≡ last_sent a.number s.journal = sym (ap (option_map sent_by) found) ∙ f.sent.registers a.number in
-      subst
-      (λ last. IsSomeAnd (option_map (λ (sent : SentRow). answer_question sent.dest a.who sent.desired) last) (λ q. decision s.rules q ≡ Allow (hear_rule s a r)))
-      sent (allowed_is (hear_decision s a r) allowed)
+      allowed_then s f (noted_row (hear_rule s a r) a)
+      (subst
+      (λ last. IsSomeAnd (option_map (λ (sent : SentRow). answer_question sent.dest a.who sent.desired) last) (λ q. decision s.rules.rules q ≡ Allow (hear_rule s a r)))
+      sent (allowed_is (hear_decision s a r) allowed))
 
   hear_stays : IsAllowed s → IsAllowed (hear_new s a r).service
   hear_stays h =
@@ -339,16 +347,35 @@ asked_free s (Restore id) i = tt
 asked_free s (Replace id method path body) i = tt
 asked_free s (Retry name) i = tt
 asked_free s (Fold id) i = tt
+asked_free s (Deploy p) i = tt
+asked_free s (Correct k p) i = tt
+asked_free s (Rules g) i = tt
 
-same_rules : (s : Kept) (command : Command) (who : List ℕ) (i : Inputs) → (carried_out s command who i).rules ≡ s.rules
-same_rules s (Cancel id) who i = refl
-same_rules s (Restore id) who i = refl
-same_rules s (Replace id method path body) who i = refl
-same_rules s (Create before after q) who i = refl
-same_rules s (Retry (OfCall number)) who i = refl
-same_rules s (Retry (OfReply id)) who i = refl
-same_rules s (Retry (OfFetch number)) who i = refl
-same_rules s (Fold id) who i = refl
+same_began : (s : Kept) (command : Command) (who : List ℕ) (i : Inputs) → (carried_out s command who i).began ≡ s.began
+same_began s (Cancel id) who i = refl
+same_began s (Restore id) who i = refl
+same_began s (Replace id method path body) who i = refl
+same_began s (Create before after q) who i = refl
+same_began s (Retry (OfCall number)) who i = refl
+same_began s (Retry (OfReply id)) who i = refl
+same_began s (Retry (OfFetch number)) who i = refl
+same_began s (Fold id) who i = refl
+same_began s (Deploy p) who i = refl
+same_began s (Correct k p) who i = refl
+same_began s (Rules g) who i = refl
+
+-- the row of an order
+abbrev ordered_row : Kept → Command → List ℕ → List ℕ → Row
+ordered_row s command token who =
+    OrderedAs (record {
+      token = token;
+      command = command;
+      who = who;
+      rule = order_rule s command who;
+      original = original s command;
+      repaired = repaired s command;
+      about = about s command;
+    })
 
 module _ (s : Kept) (f : Fits s) (command : Command) (token who : List ℕ) (i : Inputs) where
   undenied : (d : Decision) → unless_allowed d ≡ None → is_denied d ≡ false
@@ -357,7 +384,7 @@ module _ (s : Kept) (f : Fits s) (command : Command) (token who : List ℕ) (i :
 
   -- the question by the entries and registers is the question by the journal
   order_question : refused s command who ≡ None
-      → decision s.rules (command_question command who (subject s command) (request_put command (subject s command))) ≡ Allow (order_rule s command who)
+      → decision s.rules.rules (command_question command who (subject s command) (request_put command (subject s command))) ≡ Allow (order_rule s command who)
   order_question accepted =
       allowed_is (order_decision s command who)
       (undenied (order_decision s command who)
@@ -367,10 +394,12 @@ module _ (s : Kept) (f : Fits s) (command : Command) (token who : List ℕ) (i :
   order_by_stays (Some why) is h = h
   order_by_stays None is h =
       let rows = order_rows s command token who i in
-      let told = subst (λ found. decision s.rules (command_question command who found (request_put command found)) ≡ Allow (order_rule s command who))
+      let row = ordered_row s command token who in
+      let told : AllowedOn s.rules.rules s.journal row =
+      subst (λ found. decision s.rules.rules (command_question command who found (request_put command found)) ≡ Allow (order_rule s command who))
       (subject_as_told s f command) (order_question is) in
-      stays_by s (noted rows (carried_out s command who i)) rows (same_rules s command who i) (ap (λ j. j ++ rows) (same_journal s command who i))
-      (told, free_follow s.rules (asked_rows s command i) _ (asked_free s command i)) h
+      stays_by s (noted rows (carried_out s command who i)) rows (same_began s command who i) (ap (λ j. j ++ rows) (same_journal s command who i))
+      (allowed_then s f row told, free_follow s.began (asked_rows s command i) _ (asked_free s command i)) h
 
   order_where_stays : (o : Option OrderedRow) → IsAllowed s → IsAllowed (order_where s command token who i o).service
   order_where_stays (Some o) h = h
@@ -398,5 +427,5 @@ event_stays_allowed s (events.Order command token who i) f h = order_where_stays
 
 -- ---- at the start
 
-pub fresh_allowed : (setting : Setting) (rules : List Rule) → IsAllowed (fresh setting rules)
+pub fresh_allowed : (setting : Setting) (rules : GivenRules) → IsAllowed (fresh setting rules)
 fresh_allowed setting rules = tt

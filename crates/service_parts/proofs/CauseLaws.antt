@@ -82,7 +82,7 @@ committed_tells : (s : Kept) (f : Flight) (t : Trace) → causes (committed s f 
 committed_tells s f t =
     let surplus = surplus_rows s f t in
     let behind = drop (length t.calls) f.numbers in
-    let asks = Asked (record { id = next_id s; origin = f.origin; request = f.request; inputs = f.inputs }) ∷ took_rows f.origin f.request in
+    let asks = Asked (record { id = next_id s; origin = f.origin; request = f.request; inputs = f.inputs; program = f.program.number }) ∷ took_rows f.origin f.request in
     let unnaming = each_append IsUnnaming surplus asks (deleted_unnaming s.registers behind (drop (length t.calls) f.calls)) (tt, took_unnaming f.origin f.request) in
     rows_tell (length s.journal) s.registers (before_answer s f t ++ live_answer s f t ∷ [])
     (each_append IsUnnaming (before_answer s f t) (live_answer s f t ∷ []) unnaming (tt, tt))

@@ -16,6 +16,7 @@ use Rattle.lang_core.specs.declared.inputs.Inputs.{Inputs}
 use Rattle.lang_core.specs.declared.request.Request.{Request}
 use Rattle.lang_core.specs.declared.trace.CallMade.{CallMade}
 use Rattle.lang_core.specs.declared.trace.Trace.{Trace}
+use Rattle.lang_programs.specs.Numbered.{Numbered}
 use Rattle.handler_run.specs.declared.state.Ran.{Ran}
 use Rattle.handler_run.specs.declared.state.Ran.TheVariants.{Done, Wants}
 use Rattle.request_log.specs.Entries.{find_call}
@@ -128,9 +129,9 @@ before_rows s t rows entries journal quiet = record {
 
 -- ---- where a flight ends
 
--- where a flight comes from, what it asks, and its inputs
-abbrev request_of : Flight → Origin × (Request × Inputs)
-request_of f = (f.origin, (f.request, f.inputs))
+-- where a flight comes from, what it asks, its inputs and its program
+abbrev request_of : Flight → Origin × (Request × (Inputs × Numbered))
+request_of f = (f.origin, (f.request, (f.inputs, f.program)))
 
 -- it is committed, after its calls became others, where its run ended
 record Ends (s : Kept) (f : Flight) (a : After Arrived) : Type 0 where
@@ -213,10 +214,10 @@ ends_completed (suc runs) s f k enough c =
 -- where calls fit, no row asked of the next entry, and rows can be counted
 abbrev Comes : Kept → Flight → After Arrived → Type 0
 Comes s f a = FitsCalls (flying s f) → IsUnasked s → IsFew a.service
-    → Leaves s.entries (live_rows s.journal) f.origin f.request f.inputs a.service a.answer
+    → Leaves s.entries (live_rows s.journal) f.origin f.request f.inputs f.program a.service a.answer
 
 abbrev asking : Kept → Flight → AskedRow
-asking s f = record { id = next_id s; origin = f.origin; request = f.request; inputs = f.inputs }
+asking s f = record { id = next_id s; origin = f.origin; request = f.request; inputs = f.inputs; program = f.program.number }
 
 commit_there : (s : Kept) (f : Flight) (t : Trace)
     → slice_get (committed s f t).service.journal (answer_index s f t) ≡ Some (Answered (live_answer_of (next_id s) f.origin t.response))
@@ -261,6 +262,7 @@ committed_comes s f t done h unasked few = record {
   origin = refl;
   request = refl;
   inputs = refl;
+  under = refl;
   made = refl;
   ran = committed_ran s f t h few done;
   current = committed_current s f t h few done;
@@ -277,10 +279,10 @@ ends_comes s f a e h unasked few =
     let sum = length-append e.at.journal rows in
     let calls = e.goes.keeps (omega (arith, few', sum)) h in
     let a' = committed e.at e.flight e.trace in
-    let C : After Arrived → Type 0 = λ x. Leaves s.entries (live_rows s.journal) f.origin f.request f.inputs x.service x.answer in
-    let E : List Entry → Type 0 = λ es. Leaves es (live_rows e.at.journal) f.origin f.request f.inputs a'.service a'.answer in
-    let L : List Row → Type 0 = λ ls. Leaves s.entries ls f.origin f.request f.inputs a'.service a'.answer in
-    let R : Origin × (Request × Inputs) → Type 0 = λ r. Leaves e.at.entries (live_rows e.at.journal) r.0 r.1.0 r.1.1 a'.service a'.answer in
+    let C : After Arrived → Type 0 = λ x. Leaves s.entries (live_rows s.journal) f.origin f.request f.inputs f.program x.service x.answer in
+    let E : List Entry → Type 0 = λ es. Leaves es (live_rows e.at.journal) f.origin f.request f.inputs f.program a'.service a'.answer in
+    let L : List Row → Type 0 = λ ls. Leaves s.entries ls f.origin f.request f.inputs f.program a'.service a'.answer in
+    let R : Origin × (Request × (Inputs × Numbered)) → Type 0 = λ r. Leaves e.at.entries (live_rows e.at.journal) r.0 r.1.0 r.1.1.0 r.1.1.1 a'.service a'.answer in
     subst C (sym e.is)
     (subst L e.before.lives
     (subst E e.before.entries (subst R e.asks (committed_comes e.at e.flight e.trace e.done calls (e.before.unasked unasked) few'))))
@@ -305,23 +307,24 @@ found_put f (g ∷ gs) none = elim (cases_Bool (has_flight f.id g)) [
       ])
 ]
 
-waits_flies : (s t : Kept) (f : Flight) (o : Origin) (q : Request) (i : Inputs) → t.flights ≡ with_flight f s.flights → (o, (q, i)) ≡ request_of f
-    → IsInFlight o q i f.id t
-waits_flies s t f o q i flights same =
+waits_flies : (s t : Kept) (f : Flight) (o : Origin) (q : Request) (i : Inputs) (p : Numbered) → t.flights ≡ with_flight f s.flights
+    → (o, (q, (i, p))) ≡ request_of f → IsInFlight o q i p f.id t
+waits_flies s t f o q i p flights same =
     let found : flight_of f.id t ≡ Some f =
     ap (find (has_flight f.id)) flights ∙ found_put f (without_flight f.id s.flights) (none_left f.id s.flights) in
-    let P : Option Flight → Type 0 = λ x. IsSomeAnd x (λ (g : Flight). (g.origin ≡ o) × (g.request ≡ q) × (g.inputs ≡ i)) in
+    let P : Option Flight → Type 0 = λ x. IsSomeAnd x (λ (g : Flight). (g.origin ≡ o) × (g.request ≡ q) × (g.inputs ≡ i) × (g.program ≡ p)) in
     subst P (sym found) (
-      ap (λ (r : Origin × (Request × Inputs)). r.0) (sym same),
-      ap (λ (r : Origin × (Request × Inputs)). r.1.0) (sym same),
-      ap (λ (r : Origin × (Request × Inputs)). r.1.1) (sym same),
+      ap (λ (r : Origin × (Request × (Inputs × Numbered))). r.0) (sym same),
+      ap (λ (r : Origin × (Request × (Inputs × Numbered))). r.1.0) (sym same),
+      ap (λ (r : Origin × (Request × (Inputs × Numbered))). r.1.1.0) (sym same),
+      ap (λ (r : Origin × (Request × (Inputs × Numbered))). r.1.1.1) (sym same),
     )
 
 waits_comes : (s : Kept) (f : Flight) (t : Kept) (g : Flight) (number : ℕ) (c : CallMade) → request_of g ≡ request_of f → IsBefore s t
-    → Leaves s.entries (live_rows s.journal) f.origin f.request f.inputs (waits t g number c).service (waits t g number c).answer
+    → Leaves s.entries (live_rows s.journal) f.origin f.request f.inputs f.program (waits t g number c).service (waits t g number c).answer
 waits_comes s f t g number c same before = (
   record { entries = before.entries; lives = before.lives },
-  waits_flies t (waits t g number c).service g f.origin f.request f.inputs refl (sym same),
+  waits_flies t (waits t g number c).service g f.origin f.request f.inputs f.program refl (sym same),
 )
 
 changed_comes : (s : Kept) (f : Flight) (slot : ℕ) (c : CallMade) (many : Bool) → slot < length f.calls → IsAloft s.registers f.numbers f.calls
@@ -359,7 +362,7 @@ goes_on_comes s f aloft runs =
 -- ---- the events
 
 admitted_commits : (s : Kept) (o : Origin) (q : Request) (i : Inputs) (n : Option ℕ) → FitsCalls s → RanBehind s → IsUnasked s → is_in_flight o s ≡ false
-    → last_taken_of o s.journal ≡ None → IsFew (admitted s o q i n).service → Commits o q i s (admitted s o q i n).answer (admitted s o q i n).service
+    → last_taken_of o s.journal ≡ None → IsFew (admitted s o q i n).service → Commits o q i s.newest s (admitted s o q i n).answer (admitted s o q i n).service
 admitted_commits s o q i (Some n) calls runs unasked apart free few = refl
 admitted_commits s o q i None calls runs unasked apart free few =
     let f = new_flight s o q i in
@@ -369,13 +372,13 @@ admitted_commits s o q i None calls runs unasked apart free few =
     (first.keeps (let longer = goes_longer (flying s f) (goes_on s f).service later in omega (arith, few, longer)) calls) unasked few
 
 known_commits : (s : Kept) (c : List ℕ) (n : ℕ) (q : Request) (i : Inputs) (e : Entry) (m : Option Record)
-    → Commits (Call c n) q i s (known_by s c n e m).answer (known_by s c n e m).service
+    → Commits (Call c n) q i s.newest s (known_by s c n e m).answer (known_by s c n e m).service
 known_commits s c n q i e None = refl
 known_commits s c n q i e (Some m) = record { entries = refl; lives = refl }
 
 version_commits : (s : Kept) (c : List ℕ) (n : ℕ) (q : Request) (i : Inputs) (t : TookRow) (d : Option Request) (e : Option Entry) → Fits s
     → last_taken c n s.journal ≡ Some t → t.desired ≡ d → find_call (Call c n) s.entries ≡ e
-    → Commits (Call c n) q i s (by_version s t.version d (arrives_or_known s c n q i e)).answer (by_version s t.version d (arrives_or_known s c n q i e)).service
+    → Commits (Call c n) q i s.newest s (by_version s t.version d (arrives_or_known s c n q i e)).answer (by_version s t.version d (arrives_or_known s c n q i e)).service
 version_commits s c n q i t None e f last asks entry = refl
 version_commits s c n q i t (Some r) (Some e) f last asks entry = known_commits s c n q i e (record_of e)
 version_commits s c n q i t (Some r) None f last asks entry = absurd (has_entry s c n t r f last asks entry)
@@ -387,7 +390,7 @@ fits_unasked s f = unmade s.journal s.entries s.replies (logged s f)
 call_commits : (s : Kept) (c : List ℕ) (n : ℕ) (q : Request) (i : Inputs) (b : Bool) (t : Option TookRow) (e : Option Entry) → Fits s → is_in_flight (Call c n) s ≡ b
     → last_taken c n s.journal ≡ t → find_call (Call c n) s.entries ≡ e
     → IsFew (if b then after s (Err (NotYet n)) else unless_gone s t (arrives_or_known s c n q i e)).service
-    → Commits (Call c n) q i s (if b then after s (Err (NotYet n)) else unless_gone s t (arrives_or_known s c n q i e)).answer
+    → Commits (Call c n) q i s.newest s (if b then after s (Err (NotYet n)) else unless_gone s t (arrives_or_known s c n q i e)).answer
     (if b then after s (Err (NotYet n)) else unless_gone s t (arrives_or_known s c n q i e)).service
 call_commits s c n q i true t e f flies last entry few = refl
 call_commits s c n q i false None None f flies last entry few =
@@ -396,7 +399,7 @@ call_commits s c n q i false None (Some e) f flies last entry few = known_commit
 call_commits s c n q i false (Some t) e f flies last entry few = version_commits s c n q i t t.desired e f last refl entry
 
 pub arrive_commits : (s : Kept) (o : Origin) (q : Request) (i : Inputs) → Fits s → IsFew (arrive_event s o q i).service
-    → Commits o q i s (arrive_event s o q i).answer (arrive_event s o q i).service
+    → Commits o q i s.newest s (arrive_event s o q i).answer (arrive_event s o q i).service
 arrive_commits s Outside q i f few =
     admitted_commits s Outside q i (or_else (is_crowded s) (is_heavy s)) (calls_of_fits s f) (f.horizon.within, f.runs) (fits_unasked s f) (outside_apart s.flights) refl few
 arrive_commits s (Call c n) q i f few =
@@ -404,7 +407,7 @@ arrive_commits s (Call c n) q i f few =
 
 -- a flight that is there goes on in a service with the same flights, entries and setting
 known_comes : (s : Kept) (id : ℕ) (f : Flight) → flight_of id s ≡ Some f → FitsCalls s → RanBehind s → IsUnasked s → IsFew (goes_on s f).service
-    → Leaves s.entries (live_rows s.journal) f.origin f.request f.inputs (goes_on s f).service (goes_on s f).answer
+    → Leaves s.entries (live_rows s.journal) f.origin f.request f.inputs f.program (goes_on s f).service (goes_on s f).answer
 known_comes s id f found calls runs unasked few =
     let later = goes_on_goes s f in
     let flies = flies_known s id f found in
@@ -416,7 +419,7 @@ saw_ack a = SawAck (record { number = a.number; version = a.version; how = WithA
 
 -- of the flight that is there, if one is
 abbrev CommitsKnown : {E : Type 0} → Option Flight → Kept → After (Result Arrived E) → Type 0
-CommitsKnown o s a = MatchOption o (a.service ≡ s) (λ (f : Flight). Commits f.origin f.request f.inputs s a.answer a.service)
+CommitsKnown o s a = MatchOption o (a.service ≡ s) (λ (f : Flight). Commits f.origin f.request f.inputs f.program s a.answer a.service)
 
 answered_commits : (s : Kept) (id : ℕ) (a : AnswerMessage) (o : Option Flight) → flight_of id s ≡ o → Fits s → IsFew (answered_flight s id a o).service
     → CommitsKnown o s (answered_flight s id a o)
@@ -439,7 +442,7 @@ answered_commits s id a (Some g) is f few = by_test (is_for s a g) refl few
         let longer = goes_longer (flying t g) (goes_on t g).service later in
         let heard = heard_goes s a r.made r.found in
         let before = before_rows s t (live_answer_rows s a) refl refl (heard_quiet (is_new_to a (register a.number s.registers))) in
-        let L : List Row → Type 0 = λ ls. Leaves s.entries ls g.origin g.request g.inputs (goes_on t g).service (goes_on t g).answer in
+        let L : List Row → Type 0 = λ ls. Leaves s.entries ls g.origin g.request g.inputs g.program (goes_on t g).service (goes_on t g).answer in
         subst L before.lives
         (known_comes t id g is (heard.keeps (omega (arith, few, longer)) (calls_of_fits s f)) (f.horizon.within, f.runs) (before.unasked (fits_unasked s f)) few)
 

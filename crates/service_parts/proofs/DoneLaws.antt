@@ -4,6 +4,7 @@ use Rattle.lang_base.specs.Memory.{Unless, lacks}
 use Rattle.lang_core.specs.declared.ids.Origin.{Origin}
 use Rattle.lang_core.specs.declared.inputs.Inputs.{Inputs}
 use Rattle.lang_core.specs.declared.request.Request.{Request}
+use Rattle.lang_programs.specs.Numbered.{Numbered}
 use Rattle.repair_messages.specs.declared.messages.AnswerMessage.{AnswerMessage}
 use Rattle.call_registers.specs.declared.register.Why.{Why}
 use Rattle.flights.specs.declared.flight.Flight.{Flight}
@@ -33,23 +34,23 @@ does_holds {A} {E} P is_memory event s t r does few holds lacking = by (lacks is
 
 -- ---- what is committed
 
-refused_commits : {E : Type 0} (is_memory : E → Bool) (o : Origin) (q : Request) (i : Inputs) (s : Kept) (r : Result Arrived E) → lacks is_memory r ≡ true
-    → Commits o q i s r s
-refused_commits is_memory o q i s (Ok arrived) wants = cc
-refused_commits is_memory o q i s (Err why) wants = refl
+refused_commits : {E : Type 0} (is_memory : E → Bool) (o : Origin) (q : Request) (i : Inputs) (p : Numbered) (s : Kept) (r : Result Arrived E) → lacks is_memory r ≡ true
+    → Commits o q i p s r s
+refused_commits is_memory o q i p s (Ok arrived) wants = cc
+refused_commits is_memory o q i p s (Err why) wants = refl
 
 refused_flight : {E : Type 0} (is_memory : E → Bool) (id : ℕ) (s : Kept) (r : Result Arrived E) → lacks is_memory r ≡ true → CommitsFlight id s r s
 refused_flight is_memory id s r wants = by (flight_of id s)
   where
-    by : (there : Option Flight) → MatchOption there (s ≡ s) (λ (f : Flight). Commits f.origin f.request f.inputs s r s)
+    by : (there : Option Flight) → MatchOption there (s ≡ s) (λ (f : Flight). Commits f.origin f.request f.inputs f.program s r s)
     by None = refl
-    by (Some f) = refused_commits is_memory f.origin f.request f.inputs s r wants
+    by (Some f) = refused_commits is_memory f.origin f.request f.inputs f.program s r wants
 
 pub arrive_done : (s t : Kept) (o : Origin) (q : Request) (i : Inputs) (r : Result Arrived ArriveRefused) → Fits s → IsFew t
-    → Does arrive_memory (arrive_event s o q i) s r t → Commits o q i s r t
+    → Does arrive_memory (arrive_event s o q i) s r t → Commits o q i s.newest s r t
 arrive_done s t o q i r fits few does =
-    does_holds (λ r t. Commits o q i s r t) arrive_memory (arrive_event s o q i) s t r does few
-    (arrive_commits s o q i fits) (refused_commits arrive_memory o q i s r)
+    does_holds (λ r t. Commits o q i s.newest s r t) arrive_memory (arrive_event s o q i) s t r does few
+    (arrive_commits s o q i fits) (refused_commits arrive_memory o q i s.newest s r)
 
 pub call_answered_done : (s t : Kept) (id : ℕ) (a : AnswerMessage) (r : Result Arrived CallRefused) → Fits s → IsFew t
     → Does call_memory (call_answered_event s id a) s r t → CommitsFlight id s r t

@@ -17,10 +17,9 @@ use Rattle.repair_messages.specs.declared.posts.PostName.TheVariants.{Call as Of
 use Rattle.journal_rows.specs.Words.{noted_at}
 use Rattle.journal_rows.specs.declared.caller.NotedRow.{NotedRow}
 use Rattle.journal_rows.specs.declared.orders.Command.{Command}
-use Rattle.journal_rows.specs.declared.orders.Command.TheVariants.{Cancel, Restore, Replace, Create, Retry, Fold}
+use Rattle.journal_rows.specs.declared.orders.Command.TheVariants.{Cancel, Restore, Replace, Create, Retry, Fold, Deploy, Correct, Rules}
 use Rattle.journal_rows.specs.declared.orders.OrderedRow.{OrderedRow}
 use Rattle.journal_rows.specs.declared.row.Row.{Row}
-use Rattle.journal_rows.specs.declared.row.Row.TheVariants.{Asked}
 use Rattle.call_registers.specs.Registers.{is_news, is_newer, register, with_hold, released}
 use Rattle.call_registers.specs.Replies.{has_entry, reply, at_entry, with_taken, with_confirm, made_due, with_hold as with_reply_hold, released as released_reply}
 use Rattle.call_registers.specs.declared.register.Hold.{Hold}
@@ -29,9 +28,9 @@ use Rattle.call_registers.specs.declared.reply.Reply.{Reply}
 use Rattle.service_events.specs.Ages.{marks_reply}
 use Rattle.service_events.specs.Calls.{noted}
 use Rattle.service_events.specs.Fits.{Fits}
-use Rattle.service_events.specs.Messages.{take_new, origin_of, is_known, acked_row, took_row, at_reply_of, acked_again, created_reply, taken_by, taken, take_admitted, noted_row, hear_rule, hear_new, confirmed_row, heard, token_taken_where, fetched_row, fetched, had, had_answer, is_version, replies_to, is_now, hold_of, held_back, held_where, saw_ack_row, was_confirmed_row, posted}
+use Rattle.service_events.specs.Messages.{take_new, origin_of, is_known, acked_row, created_row, took_row, at_reply_of, acked_again, created_reply, taken_by, taken, take_admitted, noted_row, hear_rule, hear_new, confirmed_row, heard, token_taken_where, fetched_row, fetched, had, had_answer, is_version, replies_to, is_now, hold_of, held_back, held_where, saw_ack_row, was_confirmed_row, posted}
 use Rattle.service_events.specs.Orders.{refused, asked_rows, order_rows, carried_out, order_by, order_where}
-use Rattle.service_events.specs.State.{Kept, After, after, me, next_id}
+use Rattle.service_events.specs.State.{Kept, After, after, me}
 use Rattle.service_events.specs.declared.answers.PostReply.{PostReply}
 use Rattle.service_events.specs.declared.answers.PostReply.TheVariants.{Acked as WasAcked, Confirmed as WasConfirmedBack, Given, Refused, Lost}
 use Rattle.service_events.specs.declared.answers.Posted.TheVariants.{Saw, Knew, Held, Left}
@@ -103,7 +102,7 @@ taken_aged s f set i (Some e) d is = record {
   replies = λ _. acked_own s f set (took_row s set ∷ []) (tt, tt) e (λ p. made_due (length s.journal + 1) (with_taken set.version (is_some set.desired) p)) is (λ p. (refl, refl, refl, omega arith));
 }
 taken_aged s f set i None (Some q) is =
-    let asks = Asked (record { id = next_id s; origin = origin_of set; request = q; inputs = i }) in
+    let asks = created_row s set q i in
     let rows = took_row s set ∷ (asks ∷ []) in
     let it = and_from (same_text set.caller set.caller) (nat_eq set.number set.number) (nat_list_eq_equiv.refl set.caller) (eq-eqb set.number set.number refl) in record {
       calls = ages_noted s (taken_by s set i None (Some q)) (took_row s set ∷ (asks ∷ (acked_row set ∷ []))) refl refl;
@@ -262,6 +261,9 @@ carried_calls s (Retry (OfCall number)) who i =
 carried_calls s (Retry (OfReply id)) who i = ages_stay s (carried_out s (Retry (OfReply id)) who i) refl refl
 carried_calls s (Retry (OfFetch number)) who i = ages_stay s (carried_out s (Retry (OfFetch number)) who i) refl refl
 carried_calls s (Fold id) who i = ages_stay s (carried_out s (Fold id) who i) refl refl
+carried_calls s (Deploy p) who i = ages_stay s (carried_out s (Deploy p) who i) refl refl
+carried_calls s (Correct k p) who i = ages_stay s (carried_out s (Correct k p) who i) refl refl
+carried_calls s (Rules g) who i = ages_stay s (carried_out s (Rules g) who i) refl refl
 
 carried_marked : (s : Kept) (command : Command) (who : List ℕ) (i : Inputs) → AllMarked s → AllMarked (carried_out s command who i)
 carried_marked s (Cancel id) who i h = h
@@ -271,6 +273,9 @@ carried_marked s (Create before behind q) who i h = h
 carried_marked s (Retry (OfCall number)) who i h = h
 carried_marked s (Retry (OfFetch number)) who i h = h
 carried_marked s (Fold id) who i h = h
+carried_marked s (Deploy p) who i h = h
+carried_marked s (Correct k p) who i h = h
+carried_marked s (Rules g) who i h = h
 carried_marked s (Retry (OfReply id)) who i h = replies_kept s.journal id (released_reply who) s.replies (λ p m. m) h
 
 asked_none : (s : Kept) (command : Command) (i : Inputs) → Each MarksNone (asked_rows s command i)
@@ -280,6 +285,9 @@ asked_none s (Restore id) i = tt
 asked_none s (Replace id method path body) i = tt
 asked_none s (Retry name) i = tt
 asked_none s (Fold id) i = tt
+asked_none s (Deploy p) i = tt
+asked_none s (Correct k p) i = tt
+asked_none s (Rules g) i = tt
 
 by_aged : (s : Kept) (command : Command) (token who : List ℕ) (i : Inputs) (why : Option OrderRefused) → LeavesAged s (order_by s command token who i why)
 by_aged s command token who i (Some why) = aged_same s

@@ -1,7 +1,9 @@
 -- Room for the abandonment of flights, as flights come and go.
-use Rattle.std.proofs.Common.{◌≡◌, ℕ, ◌+◌, ◌≤◌, List, [], ◌∷◌, length, Some, Result, Ok, Err, IsOk, OnOk, ap, nat_lt, inl, inr, arith}
+use Rattle.std.proofs.Common.{◌≡◌, ℕ, ◌+◌, ◌≤◌, Bool, true, false, cond, List, [], ◌∷◌, length, map, Some, Result, Ok, Err, IsOk, OnOk, ap, nat_lt, inl, inr, arith, refl}
 use Rattle.std.proofs.lemmas.Bool.{cases_Bool}
 use Rattle.std.proofs.lemmas.List.Sums.{sum_by-cons}
+use Rattle.lang_programs.specs.Numbered.{Numbered}
+use Rattle.flights.specs.Corrections.{corrected_flight, has_program}
 use Rattle.flights.specs.Numbers.{has_flight, flight_in, without_flight, put_flight, with_flight}
 use Rattle.flights.specs.declared.flight.Flight.{Flight}
 use Rattle.service_parts.specs.Rooms.{aloft}
@@ -50,6 +52,20 @@ aloft_with f fs =
     let put = aloft_put f (without_flight f.id fs) in
     let less = aloft_without f.id fs in
     omega (arith, put, less)
+
+calls_corrected : (m : Numbered) (b : Bool) (f : Flight) → (cond b (record f { program = m }) f).calls ≡ f.calls
+calls_corrected m true f = refl
+calls_corrected m false f = refl
+
+-- flights under another program have as many calls
+pub aloft_corrected : (k : ℕ) (m : Numbered) (fs : List Flight) → aloft (map (corrected_flight k m) fs) ≡ aloft fs
+aloft_corrected k m [] = refl
+aloft_corrected k m (f ∷ fs) =
+    let first = ap length (calls_corrected m (has_program k f) f) in
+    let rest = aloft_corrected k m fs in
+    let now = aloft_cons (corrected_flight k m f) (map (corrected_flight k m) fs) in
+    let all = aloft_cons f fs in
+    omega (arith, first, rest, now, all)
 
 -- ---- an answer that isn't a refusal
 

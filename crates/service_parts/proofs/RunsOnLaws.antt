@@ -18,6 +18,7 @@ use Rattle.request_log.specs.Records.{Record, record_of}
 use Rattle.request_log.specs.declared.entry.Entry.{Entry}
 use Rattle.request_log.specs.declared.entry.Made.{Made}
 use Rattle.local_repair.specs.Alone.{trace_or_dead}
+use Rattle.local_repair.specs.Programs.{setting_of}
 use Rattle.local_repair.specs.Steps.{answer_at, calls_of_made}
 use Rattle.local_repair.proofs.HandlerLemmas.{handler}
 use Rattle.repair_messages.specs.declared.messages.AnswerMessage.{AnswerMessage}
@@ -347,7 +348,7 @@ turn_goes run answer given (Wants slot calls call) more is goes =
 
 module _ (s : Kept) (rows : List Cell) (e : Entry) where
   abbrev runs : List Response → Ran
-  runs = λ xs. run_of s.setting e.request e.inputs xs rows
+  runs = λ xs. run_of (setting_of s.setting e) e.request e.inputs xs rows
 
   abbrev answer : ℕ → CallMade → Response
   answer = answer_at (answers s) (calls_of_made e.made) e.slots
@@ -357,7 +358,7 @@ module _ (s : Kept) (rows : List Cell) (e : Entry) where
   rerun_goes zero given enough =
       turn_goes runs answer given (runs given) (λ slot call. rerun zero s rows e (given ++ answer slot call ∷ [])) refl
       (λ slot calls call is.
-      let asks = ((handler s.setting).steady e.request e.inputs rows).asks given slot calls call is in
+      let asks = ((handler (setting_of s.setting e)).steady e.request e.inputs rows).asks given slot calls call is in
       absurd (let at = asks.0 in let few = asks.2 in omega (arith, at, few, enough)))
   rerun_goes (suc turns) given enough =
       turn_goes runs answer given (runs given) (λ slot call. rerun (suc turns) s rows e (given ++ answer slot call ∷ [])) refl
@@ -394,7 +395,7 @@ one_through run answer given (r ∷ rs) (q ∷ qs) t u x y =
 
 one_again : (b : Bool) (s : Kept) (rows : List Cell) (e : Entry) (t u : Trace) → RunsAgain b s rows e t → RunsAgain b s rows e u → t ≡ u
 one_again true s rows e t u x y =
-    one_through (λ xs. run_of s.setting e.request e.inputs xs rows) (answer_at (answers s) (calls_of_made e.made) e.slots) [] x.0 y.0 t u x.1 y.1
+    one_through (λ xs. run_of (setting_of s.setting e) e.request e.inputs xs rows) (answer_at (answers s) (calls_of_made e.made) e.slots) [] x.0 y.0 t u x.1 y.1
 one_again false s rows e t u x y = x ∙ sym y
 
 one_record : (s : Kept) (rows : List Cell) (e : Entry) (m n : Made) → IsRecord s rows e m → IsRecord s rows e n → m ≡ n

@@ -16,19 +16,19 @@ use Rattle.repair_messages.specs.declared.posts.Post.TheVariants.{Set, Token, Fe
 use Rattle.journal_rows.specs.Words.{noted_at, ordered}
 use Rattle.journal_rows.specs.declared.caller.NotedRow.{NotedRow}
 use Rattle.journal_rows.specs.declared.orders.Command.{Command}
-use Rattle.journal_rows.specs.declared.orders.Command.TheVariants.{Cancel, Restore, Replace, Create, Retry, Fold}
+use Rattle.journal_rows.specs.declared.orders.Command.TheVariants.{Cancel, Restore, Replace, Create, Retry, Fold, Deploy, Correct, Rules}
 use Rattle.journal_rows.specs.declared.orders.OrderedRow.{OrderedRow}
 use Rattle.journal_rows.specs.declared.row.Row.TheVariants.{Asked, Answered}
 use Rattle.call_registers.specs.Registers.{register, next_number, is_news, is_newer}
 use Rattle.call_registers.specs.declared.register.Hold.{Hold}
 use Rattle.call_registers.specs.declared.register.Register.{Register}
 use Rattle.flights.specs.declared.flight.Flight.{Flight}
-use Rattle.service_events.specs.State.{Kept, After, after, answers, next_id, flight_of, base, unfolded}
+use Rattle.service_events.specs.State.{Kept, After, after, answers, flight_of, base, unfolded}
 use Rattle.service_events.specs.Calls.{noted, all_deleted}
 use Rattle.service_events.specs.Arriving.{abandoned}
 use Rattle.service_events.specs.Commits.{live_rows}
 use Rattle.service_events.specs.Steps.{sent_rows, answer_rows, new_record, Stale, stale_in, step_by}
-use Rattle.service_events.specs.Messages.{take_new, origin_of, is_known, is_too_much, acked_row, took_row, acked_again, taken_by, taken, take_admitted, noted_row, hear_rule, hear_new, confirmed_row, heard, token_taken_where, fetched_row, fetched, is_now, hold_of, held_back, held_where, saw_ack_row, was_confirmed_row, posted}
+use Rattle.service_events.specs.Messages.{take_new, origin_of, is_known, is_too_much, acked_row, created_row, took_row, acked_again, taken_by, taken, take_admitted, noted_row, hear_rule, hear_new, confirmed_row, heard, token_taken_where, fetched_row, fetched, is_now, hold_of, held_back, held_where, saw_ack_row, was_confirmed_row, posted}
 use Rattle.service_events.specs.Orders.{refused, asked_rows, order_rows, carried_out, order_by, order_where}
 use Rattle.service_events.specs.Event.{event}
 use Rattle.service_events.specs.declared.answers.PostReply.{PostReply}
@@ -74,7 +74,7 @@ stepped_none s (Some x) =
 taken_none : (s : Kept) (set : SetMessage) (i : Inputs) (e : Option Entry) (d : Option Request) → live_rows (taken_by s set i e d).journal ≡ live_rows s.journal
 taken_none s set i (Some e) d = live_same s.journal (took_row s set ∷ (acked_row set ∷ [])) (tt, (tt, tt))
 taken_none s set i None (Some q) =
-    live_same s.journal (took_row s set ∷ (Asked (record { id = next_id s; origin = origin_of set; request = q; inputs = i }) ∷ (acked_row set ∷ []))) (tt, (tt, (tt, tt)))
+    live_same s.journal (took_row s set ∷ (created_row s set q i ∷ (acked_row set ∷ []))) (tt, (tt, (tt, tt)))
 taken_none s set i None None = live_same s.journal (took_row s set ∷ (acked_row set ∷ [])) (tt, (tt, tt))
 
 admitted_none : (s : Kept) (set : SetMessage) (i : Inputs) (n : Option ℕ) → AnswersNone s (take_admitted s set i n)
@@ -134,6 +134,9 @@ asked_silent s (Restore id) i = tt
 asked_silent s (Replace id method path body) i = tt
 asked_silent s (Retry name) i = tt
 asked_silent s (Fold id) i = tt
+asked_silent s (Deploy p) i = tt
+asked_silent s (Correct k p) i = tt
+asked_silent s (Rules g) i = tt
 
 by_none : (s : Kept) (command : Command) (token who : List ℕ) (i : Inputs) (why : Option OrderRefused) → AnswersNone s (order_by s command token who i why)
 by_none s command token who i (Some why) = refl

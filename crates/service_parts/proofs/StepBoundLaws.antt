@@ -10,16 +10,18 @@ use Rattle.create_placement.specs.Placement.{created}
 use Rattle.repair_messages.specs.declared.posts.PostName.TheVariants.{Call as OfCall, Reply as OfReply, Fetch as OfFetch}
 use Rattle.local_repair.specs.Steps.{remade}
 use Rattle.journal_rows.specs.declared.orders.Command.{Command}
-use Rattle.journal_rows.specs.declared.orders.Command.TheVariants.{Cancel, Restore, Replace, Create, Retry, Fold}
+use Rattle.journal_rows.specs.declared.orders.Command.TheVariants.{Cancel, Restore, Replace, Create, Retry, Fold, Deploy, Correct, Rules}
 use Rattle.journal_rows.specs.declared.orders.OrderedRow.{OrderedRow}
+use Rattle.flights.specs.Corrections.{corrected_flight}
 use Rattle.service_events.specs.State.{Kept, in_all, is_crowded, is_heavy, next_id, or_else, unfolded}
-use Rattle.service_events.specs.Orders.{carried_out, is_too_much, makes_entry, misnamed, order_by, order_decision, order_where, refused, unless_allowed, place_made, to_fold, unless_quiet}
+use Rattle.service_events.specs.Orders.{brings_program, brought, carried_out, corrected_on, is_programmed, is_too_much, lacks_place, made_under, makes_entry, misnamed, order_by, order_decision, order_where, refused, unless_allowed, place_made, to_fold, unless_quiet}
 use Rattle.service_events.specs.Steps.{new_record, new_numbers, Stale, step_by}
 use Rattle.service_events.specs.declared.refusals.OrderRefused.{OrderRefused}
 use Rattle.service_events.specs.declared.refusals.OrderRefused.TheVariants.{Full}
 use Rattle.service_events.proofs.SearchLemmas.{neither, length_insert}
 use Rattle.request_log.specs.Folded.{bare}
 use Rattle.service_events.proofs.OrderLaw.{well_named}
+use Rattle.service_events.proofs.CorrectLaw.{corrected_many}
 use Rattle.service_events.proofs.HorizonLemmas.{mapped_behind}
 
 -- ---- a step
@@ -59,10 +61,10 @@ below s false is h = grind (arith, nat_tests)
 
 has_place : (s : Kept) (command : Command) (who : List ℕ) → makes_entry command ≡ true → refused s command who ≡ None → in_all s < 100000
 has_place s command who makes h =
-    let none = (neither (is_heavy s) (cond (makes_entry command) (is_crowded s) None) (little_enough s command who h)).1 in
+    let none = (neither (is_heavy s) (lacks_place s command) (little_enough s command who h)).1 in
     below s (nat_le 100000 (in_all s)) refl (by_test (makes_entry command) makes none)
   where
-    by_test : (b : Bool) → b ≡ true → cond b (is_crowded s) None ≡ None → is_crowded s ≡ None
+    by_test : (b : Bool) → b ≡ true → cond b (is_crowded s) (cond (brings_program command) (is_programmed s) None) ≡ None → is_crowded s ≡ None
     by_test true is e = e
     by_test false is e = cc
 
@@ -82,7 +84,8 @@ carried_bounded s (Replace id method path body) who i none h =
     (let few = as_many s (changed id (replace method path body) s.entries) (length-map s.entries (λ e. cond (has_id id e) (replace method path body e) e)) in omega (arith, h, few))
 carried_bounded s (Create before after q) who i none h =
     let at = place_made s before after in
-    let more = one_more s (insert s.entries at (created (next_id s) q i)) (length_insert s.entries at (created (next_id s) q i)) in
+    let entry = created (next_id s) q i (made_under s before after) in
+    let more = one_more s (insert s.entries at entry) (length_insert s.entries at entry) in
     let few = has_place s (Create before after q) who refl none in
     omega (arith, few, more)
 carried_bounded s (Fold id) who i none h =
@@ -91,6 +94,13 @@ carried_bounded s (Fold id) who i none h =
     let left = length-drop s.horizon s.entries in
     let now = length-drop (s.horizon + n) s.entries in
     omega (arith, h, rest, left, now)
+carried_bounded s (Correct k p) who i none h =
+    let m = brought s p in
+    let few = as_many s (corrected_on k m s).entries (corrected_many s k m) in
+    let flights = length-map s.flights (corrected_flight k m) in
+    omega (arith, h, few, flights)
+carried_bounded s (Deploy p) who i none h = h
+carried_bounded s (Rules g) who i none h = h
 carried_bounded s (Retry (OfCall number)) who i none h = h
 carried_bounded s (Retry (OfReply id)) who i none h = h
 carried_bounded s (Retry (OfFetch number)) who i none h = h

@@ -15,7 +15,6 @@ use Rattle.local_repair.specs.declared.remaking.Rerun.{Rerun}
 use Rattle.local_repair.specs.declared.stepped.Stepped.{Stepped}
 use Rattle.local_repair.specs.declared.stepped.Stepped.TheVariants.{Idle, Ran as RanAgain}
 use Rattle.local_repair.proofs.CurrentLemmas.{current_at}
-use Rattle.local_repair.proofs.HandlerLemmas.{handler}
 use Rattle.local_repair.proofs.StepLemmas.{stepped as remade_steps}
 use Rattle.local_repair.proofs.TestLemmas.{step_with_at, stale_id_none}
 use Rattle.journal_rows.specs.declared.callee.AnsweredRow.{AnsweredRow}
@@ -120,7 +119,7 @@ module _ (s : Kept) (f : Fits s) where
 
     ran_steps : StepsTo s.setting (changes s now) (base s) (unfolded s) (step_by s (Some x)).answer (unfolded now)
     ran_steps =
-        (remade_steps s.setting (handler s.setting) (changes s now) (base s) (unfolded s) (unfolded now) at.place again (step_by s (Some x)).answer (first_of (answers s) (base s) (unfolded s) x at) again_at
+        (remade_steps s.setting (changes s now) (base s) (unfolded s) (unfolded now) at.place again (step_by s (Some x)).answer (first_of (answers s) (base s) (unfolded s) x at) again_at
         (λ d. ap (λ (y : Entry). RanAgain y.id again.answered) (sym (at.here d))) put_at
         f.runs (apart_behind s f) (own_behind s f)).1
 

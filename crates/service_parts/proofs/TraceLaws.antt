@@ -11,6 +11,7 @@ use Rattle.handler_run.specs.declared.state.Ran.TheVariants.{Done, Wants}
 use Rattle.request_log.specs.Entries.{is_alive}
 use Rattle.request_log.specs.declared.entry.Entry.{Entry}
 use Rattle.local_repair.specs.Current.{Consumed}
+use Rattle.local_repair.specs.Programs.{setting_of}
 use Rattle.local_repair.specs.Steps.{answer_at, answers_for, calls_of_made, ended_or, trace_through, trace_again, IsRerun}
 use Rattle.local_repair.proofs.CallsLemmas.{IsTurn, first_turn, turn_more, done_runs, done_answers}
 use Rattle.local_repair.proofs.HandlerLemmas.{IsSteady, handler}
@@ -54,17 +55,17 @@ module _ (run : List Response → Ran) (steady : IsSteady run) (consumed : Consu
 
 module _ (s : Kept) (rows : List Cell) (e : Entry) where
   abbrev runs : List Response → Ran
-  runs = λ xs. run_of s.setting e.request e.inputs xs rows
+  runs = λ xs. run_of (setting_of s.setting e) e.request e.inputs xs rows
 
   abbrev live : Trace
   live = trace_through 17 runs (answer_at (answers s) (calls_of_made e.made) e.slots) []
 
   ended : Ended runs (answers s) (calls_of_made e.made) e.slots live
-  ended = ends runs ((handler s.setting).steady e.request e.inputs rows) (answers s) (calls_of_made e.made) e.slots
+  ended = ends runs ((handler (setting_of s.setting e)).steady e.request e.inputs rows) (answers s) (calls_of_made e.made) e.slots
 
-  live_runs : (b : Bool) → b ≡ true → run_of s.setting e.request e.inputs (cond b live dead_trace).answers rows ≡ Done (cond b live dead_trace)
+  live_runs : (b : Bool) → b ≡ true → run_of (setting_of s.setting e) e.request e.inputs (cond b live dead_trace).answers rows ≡ Done (cond b live dead_trace)
   live_runs true is =
-      done_runs runs ((handler s.setting).steady e.request e.inputs rows) (answers s) (calls_of_made e.made) e.slots ended.given ended.turn live ended.at ended.done
+      done_runs runs ((handler (setting_of s.setting e)).steady e.request e.inputs rows) (answers s) (calls_of_made e.made) e.slots ended.given ended.turn live ended.at ended.done
   live_runs false is = cc
 
   is_dead : (b : Bool) → b ≡ false → cond b live dead_trace ≡ dead_trace
@@ -73,7 +74,7 @@ module _ (s : Kept) (rows : List Cell) (e : Entry) where
 
   their_answers : (b : Bool) → (cond b live dead_trace).answers ≡ answers_for (answers s) (calls_of_made e.made) e.slots (cond b live dead_trace).calls
   their_answers true =
-      done_answers runs ((handler s.setting).steady e.request e.inputs rows) (answers s) (calls_of_made e.made) e.slots ended.given ended.turn live ended.at ended.done
+      done_answers runs ((handler (setting_of s.setting e)).steady e.request e.inputs rows) (answers s) (calls_of_made e.made) e.slots ended.given ended.turn live ended.at ended.done
   their_answers false = refl
 
   again_is : IsRerun s.setting (answers s) rows e (record { alive = is_alive e; version = e.version; request = e.request; trace = trace_again s.setting (answers s) rows e })

@@ -16,7 +16,7 @@ use Rattle.journal_rows.specs.Words.{noted_at, ordered}
 use Rattle.journal_rows.specs.declared.caller.NotedRow.{NotedRow}
 use Rattle.journal_rows.specs.declared.caller.SentRow.{SentRow}
 use Rattle.journal_rows.specs.declared.orders.Command.{Command}
-use Rattle.journal_rows.specs.declared.orders.Command.TheVariants.{Cancel, Restore, Replace, Create, Retry, Fold}
+use Rattle.journal_rows.specs.declared.orders.Command.TheVariants.{Cancel, Restore, Replace, Create, Retry, Fold, Deploy, Correct, Rules}
 use Rattle.journal_rows.specs.declared.orders.OrderedRow.{OrderedRow}
 use Rattle.journal_rows.specs.declared.row.Row.{Row}
 use Rattle.journal_rows.specs.declared.row.Row.TheVariants.{Asked, Sent}
@@ -25,11 +25,11 @@ use Rattle.call_registers.specs.declared.register.Hold.{Hold}
 use Rattle.call_registers.specs.declared.register.Register.{Register}
 use Rattle.call_registers.specs.declared.register.Why.{Why}
 use Rattle.flights.specs.declared.flight.Flight.{Flight}
-use Rattle.service_events.specs.State.{Kept, after, answers, next_id, flight_of, base, unfolded}
+use Rattle.service_events.specs.State.{Kept, after, answers, flight_of, base, unfolded}
 use Rattle.service_events.specs.Arriving.{abandoned}
 use Rattle.service_events.specs.Calls.{first_sent, put_sent, after_row, after_rows, noted, all_deleted}
 use Rattle.service_events.specs.Causes.{causes_in, causes, AddsCauses}
-use Rattle.service_events.specs.Messages.{take_new, origin_of, is_known, is_too_much, acked_row, took_row, acked_again, taken_by, taken, take_admitted, noted_row, hear_rule, hear_new, confirmed_row, heard, token_taken_where, fetched_row, fetched, is_now, hold_of, held_back, held_where, saw_ack_row, was_confirmed_row, posted}
+use Rattle.service_events.specs.Messages.{take_new, origin_of, is_known, is_too_much, acked_row, created_row, took_row, acked_again, taken_by, taken, take_admitted, noted_row, hear_rule, hear_new, confirmed_row, heard, token_taken_where, fetched_row, fetched, is_now, hold_of, held_back, held_where, saw_ack_row, was_confirmed_row, posted}
 use Rattle.service_events.specs.Orders.{refused, order_rows, carried_out, order_by, order_where}
 use Rattle.service_events.specs.Steps.{sent_rows, answer_rows, new_record, Stale, stale_in, step_by}
 use Rattle.service_events.specs.Event.{event}
@@ -113,7 +113,7 @@ taken_untold : (s : Kept) (set : SetMessage) (i : Inputs) (e : Option Entry) (d 
 taken_untold s set i (Some e) d = tells_none s (taken_by s set i (Some e) d) (rows_add (length s.journal) s.registers (took_row s set ∷ (acked_row set ∷ [])))
 taken_untold s set i None (Some q) =
     tells_none s (taken_by s set i None (Some q))
-    (rows_add (length s.journal) s.registers (took_row s set ∷ (Asked (record { id = next_id s; origin = origin_of set; request = q; inputs = i }) ∷ (acked_row set ∷ []))))
+    (rows_add (length s.journal) s.registers (took_row s set ∷ (created_row s set q i ∷ (acked_row set ∷ []))))
 taken_untold s set i None None = tells_none s (taken_by s set i None None) (rows_add (length s.journal) s.registers (took_row s set ∷ (acked_row set ∷ [])))
 
 admitted_untold : (s : Kept) (set : SetMessage) (i : Inputs) (n : Option ℕ) → TellsNone s (take_admitted s set i n).service
@@ -176,6 +176,9 @@ carried_same s (Retry (OfCall number)) who i = same_causes number (released who)
 carried_same s (Retry (OfReply id)) who i = refl
 carried_same s (Retry (OfFetch number)) who i = refl
 carried_same s (Fold id) who i = refl
+carried_same s (Deploy p) who i = refl
+carried_same s (Correct k p) who i = refl
+carried_same s (Rules g) who i = refl
 
 by_untold : (s : Kept) (command : Command) (token who : List ℕ) (i : Inputs) (why : Option OrderRefused) → TellsNone s (order_by s command token who i why).service
 by_untold s command token who i (Some why) = same_tells_none s s refl

@@ -1,5 +1,5 @@
 -- All entries of a service, as its log keeps them: the folded ones, and behind them the others.
-use Rattle.std.proofs.Common.{◌≡◌, ℕ, suc, ◌+◌, Bool, true, false, cond, List, [], ◌∷◌, ◌++◌, Option, Some, None, drop, find, insert, length, map, option_map, take, refl, sym, ap, ◌∙◌, arith, length-append, nat_eq, ◌||◌, is_some}
+use Rattle.std.proofs.Common.{◌≡◌, ℕ, suc, ◌+◌, Bool, true, false, cond, List, [], ◌∷◌, ◌++◌, Option, Some, None, drop, find, insert, length, map, option_map, take, slice_get, refl, sym, ap, ◌∙◌, arith, length-append, nat_eq, ◌||◌, is_some}
 use Rattle.std.specs.Option.{option_or}
 use Rattle.std.proofs.lemmas.List.{length-map, map-append}
 use Rattle.std.proofs.lemmas.List.Folds.{find-append}
@@ -7,7 +7,7 @@ use Rattle.request_log.specs.Entries.{has_id, with_entry, changed, AreReplaced, 
 use Rattle.request_log.specs.Folded.{as_entry, whole, has_caller, has_number}
 use Rattle.request_log.specs.declared.entry.Entry.{Entry}
 use Rattle.request_log.specs.declared.folded.Folded.{Folded}
-use Rattle.service_events.specs.State.{folded, in_all, unfolded, is_past}
+use Rattle.service_events.specs.State.{folded, in_all, unfolded, is_past, program_for, program_or}
 use Rattle.service_parts.specs.Parts.{kept, whole_log}
 use Rattle.service_parts.specs.declared.parts.Parts.{Parts}
 use Rattle.lang_core.specs.declared.request.Request.{Request}
@@ -65,6 +65,16 @@ whole_insert [] es at x = ap (λ k. insert es k x) (let same : at ≡ 0 + at = o
 whole_insert (f ∷ fs) es at x =
     ap (λ l. as_entry f ∷ l) (whole_insert fs es at x)
     ∙ ap (λ k. insert (as_entry f ∷ whole fs es) k x) (let same : suc (length fs + at) ≡ suc (length fs) + at = omega arith in same)
+
+-- what stands behind the folded ones
+pub whole_get : (fs : List Folded) (es : List Entry) (at : ℕ) → slice_get (whole fs es) (length fs + at) ≡ slice_get es at
+whole_get [] es at = ap (slice_get es) (let same : 0 + at ≡ at = omega arith in same)
+whole_get (f ∷ fs) es at =
+    ap (slice_get (as_entry f ∷ whole fs es)) (let same : suc (length fs) + at ≡ suc (length fs + at) = omega arith in same) ∙ whole_get fs es at
+
+-- the program of an entry that is made there
+pub program_behind : (p : Parts) (at : ℕ) → program_for (kept p) (length p.repairer.folded + at) ≡ program_or p.newest (slice_get p.repairer.entries at)
+program_behind p at = ap (program_or p.newest) (whole_get p.repairer.folded p.repairer.entries at)
 
 pub whole_push : (fs : List Folded) (es : List Entry) (x : Entry) → whole fs (es ++ x ∷ []) ≡ whole fs es ++ x ∷ []
 whole_push [] es x = refl

@@ -6,7 +6,7 @@ use Rattle.authorise_rules.specs.declared.asked.Decision.{Decision}
 use Rattle.authorise_rules.specs.declared.asked.Decision.TheVariants.{Allow, Deny}
 use Rattle.journal_rows.specs.Words.{ordered}
 use Rattle.journal_rows.specs.declared.orders.Command.{Command}
-use Rattle.journal_rows.specs.declared.orders.Command.TheVariants.{Cancel, Restore, Replace, Create, Retry, Fold}
+use Rattle.journal_rows.specs.declared.orders.Command.TheVariants.{Cancel, Restore, Replace, Create, Retry, Fold, Deploy, Correct, Rules}
 use Rattle.service_events.specs.State.{Kept, after, or_else}
 use Rattle.service_events.specs.Calls.{noted}
 use Rattle.service_events.specs.Doing.{Does, order_memory}
@@ -45,6 +45,9 @@ refusals_are s (Replace id method path body) who = refl
 refusals_are s (Create before after q) who = refl
 refusals_are s (Retry name) who = refl
 refusals_are s (Fold id) who = refl
+refusals_are s (Deploy p) who = refl
+refusals_are s (Correct k p) who = refl
+refusals_are s (Rules g) who = refl
 
 rule_on : (s : Kept) (command : Command) (who : List ℕ) → rule_of (decision_on s (resolution s command) who) ≡ order_rule s command who
 rule_on s (Cancel id) who = refl
@@ -53,6 +56,9 @@ rule_on s (Replace id method path body) who = refl
 rule_on s (Create before after q) who = refl
 rule_on s (Retry name) who = refl
 rule_on s (Fold id) who = refl
+rule_on s (Deploy p) who = refl
+rule_on s (Correct k p) who = refl
+rule_on s (Rules g) who = refl
 
 rows_are : (s : Kept) (command : Command) (token who : List ℕ) (i : Inputs)
     → allowed_rows s (resolution s command) token who i (order_rule s command who) ≡ order_rows s command token who i
@@ -62,6 +68,9 @@ rows_are s (Replace id method path body) token who i = refl
 rows_are s (Create before after q) token who i = refl
 rows_are s (Retry name) token who i = refl
 rows_are s (Fold id) token who i = refl
+rows_are s (Deploy p) token who i = refl
+rows_are s (Correct k p) token who i = refl
+rows_are s (Rules g) token who i = refl
 
 module _ (s : Kept) (command : Command) (who : List ℕ) where
   none_refuses : (rule : ℕ) → admission s (resolution s command) who ≡ Ok rule → refused s command who ≡ None

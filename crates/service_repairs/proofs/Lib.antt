@@ -1,6 +1,7 @@
 pub mod BookLemmas
 mod StepDraftLemmas
 pub mod OrderLemmas
+mod ProgramLemmas
 mod RepairLemmas
 mod DraftedLemmas
 pub mod DoneLemmas

@@ -3,7 +3,8 @@ use Rattle.std.proofs.Common.{◌≡◌, ◌∙◌, sym, ap, refl, subst, ℕ, B
 use Rattle.lang_base.specs.declared.memory.NoMemory.{NoMemory}
 use Rattle.lang_core.specs.declared.cells.Cell.{Cell}
 use Rattle.lang_core.specs.declared.setting.Setting.{Setting}
-use Rattle.authorise_rules.specs.declared.rule.Rule.{Rule}
+use Rattle.lang_programs.specs.Numbered.{Numbered}
+use Rattle.authorise_rules.specs.Given.{GivenRules}
 use Rattle.request_log.specs.declared.entry.Entry.{Entry}
 use Rattle.request_log.specs.declared.entry.Made.{Made}
 use Rattle.local_repair.specs.Current.{rows_after, AllCurrent}
@@ -110,14 +111,16 @@ module _ (s : Service) (f : Fits s) (b' : KeptBook) (last later : ℕ) (es' : Li
   step_is (Ran id answered) h same = ran_is id answered h
 
 -- the same, where the step ran over a book that was taken out of the service, and was put back into it
-pub repaired : (s : Service) → Fits s → (b b' : KeptBook) (last later : ℕ) (setting : Setting) (rules : List Rule) (old new : KeptRepairer) (now : Service) (result : Result Stepped NoMemory)
-    → b ≡ book_of s → setting ≡ s.setting → rules ≡ s.rules → map as_entry old.folded ≡ folded s → length old.folded ≡ s.horizon → old.base ≡ base s → old.entries ≡ unfolded s
+pub repaired : (s : Service) → Fits s → (b b' : KeptBook) (last later : ℕ) (setting : Setting) (began rules : GivenRules) (newest : Numbered) (old new : KeptRepairer) (now : Service) (result : Result Stepped NoMemory)
+    → b ≡ book_of s → setting ≡ s.setting → began ≡ s.began → rules ≡ s.rules → newest ≡ s.newest → map as_entry old.folded ≡ folded s → length old.folded ≡ s.horizon → old.base ≡ base s → old.entries ≡ unfolded s
     → new.folded ≡ old.folded → new.base ≡ old.base
     → IfOk result (λ stepped. StepsTo setting (change_in b b' last later) old.base old.entries stepped new.entries)
     → (result ≡ Ok Idle → b' ≡ b)
     → now ≡ record {
       setting = setting;
+      began = began;
       rules = rules;
+      newest = newest;
       entries = map as_entry new.folded ++ new.entries;
       horizon = length new.folded;
       base = new.base;
@@ -127,8 +130,8 @@ pub repaired : (s : Service) → Fits s → (b b' : KeptBook) (last later : ℕ)
       replies = b'.replies;
     }
     → IfOk result (λ stepped. after now stepped ≡ step_event s)
-repaired s f b b' last later setting rules old new now (Err e) book set ruled past many under entries same_past same_base steps idle is = tt
-repaired s f b b' last later setting rules old new now (Ok stepped) book set ruled past many under entries same_past same_base steps idle is =
+repaired s f b b' last later setting began rules newest old new now (Err e) book set first ruled newer past many under entries same_past same_base steps idle is = tt
+repaired s f b b' last later setting began rules newest old new now (Ok stepped) book set first ruled newer past many under entries same_past same_base steps idle is =
     let es' = new.entries in
     let P : KeptBook → Type 0 = λ k. StepsTo setting (change_in k b' last later) old.base old.entries stepped es' in
     let T : Setting → Type 0 = λ t. StepsTo t (change_in (book_of s) b' last later) old.base old.entries stepped es' in
@@ -140,7 +143,9 @@ repaired s f b b' last later setting rules old new now (Ok stepped) book set rul
     let there : now ≡ with_book s (folded s ++ es') b' =
     is ∙ (λ i. record {
       setting = set i;
+      began = first i;
       rules = ruled i;
+      newest = newer i;
       entries = front i ++ es';
       horizon = horizon i;
       base = rows i;

@@ -1,15 +1,20 @@
 -- How the calls of an entry that ran again are settled: what it makes of journal, registers and replies.
-use Rattle.std.specs.Prelude.{ℕ, ◌≡◌, ◌+◌, Bool, false, List, [], ◌∷◌, ◌++◌, if◌then◌else◌, length}
+use Rattle.std.specs.Prelude.{ℕ, ◌≡◌, ◌+◌, Bool, false, List, [], ◌∷◌, ◌++◌, if◌then◌else◌, length, refl}
+use Rattle.std.specs.Coded.{Coded, code_by, coded×, coded_list}
 use Rattle.lang_core.specs.declared.request.Response.{Response}
 use Rattle.lang_core.specs.declared.trace.Trace.{Trace}
 use Rattle.request_log.specs.declared.entry.Entry.{Entry}
 use Rattle.local_repair.specs.Steps.{answer_or_tentative, calls_of_made, raised}
+use Rattle.journal_rows.specs.contracts.row.Row as row
 use Rattle.journal_rows.specs.declared.row.Row.{Row}
 use Rattle.journal_rows.specs.declared.row.Row.TheVariants.{Answered}
 use Rattle.call_registers.specs.Registers.{consumed, next_number}
 use Rattle.call_registers.specs.Replies.{at_entry, with_answer}
+use Rattle.call_registers.specs.contracts.register.Register as register
+use Rattle.call_registers.specs.contracts.reply.Reply as reply
 use Rattle.call_registers.specs.declared.register.Register.{Register}
 use Rattle.call_registers.specs.declared.reply.Reply.{Reply}
+use Rattle.flights.specs.contracts.flight.Flight as flight
 use Rattle.flights.specs.declared.flight.Flight.{Flight}
 use Rattle.service_events.specs.Calls.{after_rows, settling_rows, settling_numbers}
 use Rattle.service_events.specs.State.{Kept as Service}
@@ -21,6 +26,16 @@ pub record KeptBook : Type 0 where
   pub registers : List Register
   pub replies : List Reply
   pub flights : List Flight
+
+-- by which a proof tells two of them apart
+abbrev pub book_code : Coded KeptBook
+book_code =
+    code_by (List Row × (List Register × (List Reply × List Flight)))
+    (coded× (coded_list row.the_row.coded)
+    (coded× (coded_list register.the_row.coded) (coded× (coded_list reply.the_row.coded) (coded_list flight.the_row.coded))))
+    (λ b. (b.journal, (b.registers, (b.replies, b.flights))))
+    (λ p. record { journal = p.0; registers = p.1.0; replies = p.1.1.0; flights = p.1.1.1 })
+    (λ _. refl)
 
 -- what a number consumes
 abbrev pub answers : KeptBook → ℕ → Response

@@ -33,10 +33,12 @@ pub(crate) struct Book {
 
 impl Model for Book {
     ghost use Rattle.std.specs.Prelude.{◌≤◌};
-    ghost use Rattle.service_repairs.specs.Books.{KeptBook};
+    ghost use Rattle.service_repairs.specs.Books.{KeptBook, book_code};
     ghost use Rattle.service_parts.specs.Rooms.{aloft};
 
     ghost Value = { KeptBook };
+
+    ghost coded = { book_code };
 
     ghost view = { λ b. record { journal = b.journal.rows; registers = b.registers.list; replies = b.replies.list; flights = b.flights.list } };
 

@@ -50,8 +50,9 @@ returns-clause-ok c =
     let same = c.take_book-book.ensures.entries in
     repaired (kept p) c.requires.fits c.take_book-book.result c.step-stepped.new.slots
     (length c.take_book-book.result.registers) (length c.step-stepped.new.slots.registers)
-    c.take_book-book.new.parts.setting c.take_book-book.new.parts.rules c.take_book-book.new.parts.repairer c.step-stepped.new.self (kept c.put_book.new.parts) c.step-stepped.result
-    c.take_book-book.ensures.book c.take_book-book.ensures.setting c.take_book-book.ensures.rules
+    c.take_book-book.new.parts.setting c.take_book-book.new.parts.began c.take_book-book.new.parts.rules c.take_book-book.new.parts.newest
+    c.take_book-book.new.parts.repairer c.step-stepped.new.self (kept c.put_book.new.parts) c.step-stepped.result
+    c.take_book-book.ensures.book c.take_book-book.ensures.setting c.take_book-book.ensures.began c.take_book-book.ensures.rules c.take_book-book.ensures.newest
     (ap (λ (r : KeptRepairer). map as_entry r.folded) same ∙ sym (folded_kept p)) (ap (λ (r : KeptRepairer). length r.folded) same) (ap (λ (r : KeptRepairer). r.base) same)
     (ap (λ (r : KeptRepairer). r.entries) same ∙ sym (unfolded_kept p)) c.step-stepped.ensures.folded c.step-stepped.ensures.base
     c.step-stepped.ensures.steps (λ idle. (c.step-stepped.ensures.idle idle).1) c.put_book.ensures.kept

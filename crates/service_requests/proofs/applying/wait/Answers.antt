@@ -14,17 +14,8 @@ returns-clause-ok c =
     let before = c.reserve_flight.new.parts.flights.list in
     let list : c.put.new.self.list ≡ with_flight flight before =
     on_ok c.put.result (c.put.new.self.list ≡ with_flight flight before) (c.put.ensures.ready c.in_ok-reserve_flight.ensures.flight) c.put.ensures.ok in
-    let moved : Kept → Kept = λ k. record {
-      setting = k.setting;
-      rules = k.rules;
-      entries = k.entries;
-      horizon = k.horizon;
-      base = k.base;
-      flights = with_flight flight k.flights;
-      journal = k.journal ++ draft.rows.items;
-      registers = overlaid draft.changes k.registers;
-      replies = k.replies;
-    } in
+    let moved : Kept → Kept =
+    λ k. record k { flights = with_flight flight k.flights; journal = k.journal ++ draft.rows.items; registers = overlaid draft.changes k.registers } in
     rw (list, c.note_draft.ensures.rows, c.note_draft.ensures.registers) (ap (λ (k : Kept). after (moved k) (Call flight.id c.args.set)) c.in_ok-reserve_flight.ensures.kept)
 
 pub returns-clause-room : goal.returns-clause-room

@@ -13,7 +13,7 @@ use Rattle.service_core.proofs.service.Service.arrive.Goals as goal
 
 pub returns-clause-commits : goal.returns-clause-commits
 returns-clause-commits c =
-    subst (λ s. Commits c.args.origin c.args.request c.args.inputs s c.arrive.result (kept c.arrive.new.parts)) c.self.view_is
+    subst (λ (s : Kept). Commits c.args.origin c.args.request c.args.inputs s.newest s c.arrive.result (kept c.arrive.new.parts)) c.self.view_is
     (arrive_done (kept c.self.inside.parts) (kept c.arrive.new.parts) c.args.origin c.args.request c.args.inputs c.arrive.result c.self.invariant.0.fits
     (rows_few c.arrive.new.parts) c.arrive.ensures.does)
 

@@ -4,7 +4,8 @@ use Rattle.service_core.proofs.service.Service.new.Goals as goal
 
 pub invariant_of-result : goal.invariant_of-result
 invariant_of-result c = (
-  new_service _ c.new.ensures.folded c.new.ensures.base c.new.ensures.entries c.new-2.ensures c.new-3.ensures c.new-4.ensures c.new-5.ensures.list,
+  new_service _ c.args.rules c.in_ok-began.ensures.0 c.in_ok-began.ensures.1 c.in_ok-newest.ensures c.new.ensures.folded c.new.ensures.base
+      c.new.ensures.entries c.new-2.ensures c.new-3.ensures c.new-4.ensures c.new-5.ensures.list,
   record { within = omega arith; current = tt },
 )
 
@@ -13,11 +14,14 @@ returns c =
     starts
     (record {
       setting = c.args.setting;
-      rules = c.args.rules;
+      began = c.in_ok-began.began;
+      rules = c.in_ok-began.rules;
+      newest = c.in_ok-newest.newest;
       repairer = c.new.result;
       flights = c.new-2.result;
       journal = c.new-3.result;
       registers = c.new-4.result;
       replies = c.new-5.result;
     })
-    c.new.ensures.folded c.new.ensures.base c.new.ensures.entries c.new-2.ensures c.new-3.ensures c.new-4.ensures c.new-5.ensures.list
+    c.args.rules c.in_ok-began.ensures.0 c.in_ok-began.ensures.1 c.in_ok-newest.ensures c.new.ensures.folded c.new.ensures.base c.new.ensures.entries c.new-2.ensures
+    c.new-3.ensures c.new-4.ensures c.new-5.ensures.list
