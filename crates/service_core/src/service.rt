@@ -461,6 +461,8 @@ impl Service {
 impl Copied for Service {
     fn copied(&self, alloc: Global) -> Result<Service, NoMemory> {
         let parts = copied_parts(alloc, &self.parts)?;
-        Ok(Service { parts, checked: 0 })
+        // What is known of the entries isn't copied.
+        let checked = 0;
+        Ok(Service { parts, checked })
     }
 }

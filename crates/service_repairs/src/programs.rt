@@ -1,13 +1,11 @@
 // Orders that bring a program: for what comes from now on, or in the place of another one.
-ghost use Rattle.std.specs.Prelude.{◌≡◌, ◌+◌, OnOk, OnErr, IfOk, map};
-ghost use Rattle.flights.specs.Corrections.{corrected_flight};
+ghost use Rattle.std.specs.Prelude.{◌≡◌, ◌+◌, OnOk, OnErr, IfOk};
 ghost use Rattle.journal_rows.specs.Programs.{program_count};
 ghost use Rattle.service_events.specs.Orders.{brought, corrected_on, made_under, newest_by};
 ghost use Rattle.service_parts.specs.Parts.{kept};
 ghost use Rattle.service_parts.specs.Rooms.{aloft};
 
 use create_placement::place;
-use flights::Flights;
 use lang_core::{NoMemory, Shared};
 use lang_programs::{Deployed, ProgramText};
 use service_parts::{Parts, program_for};
@@ -57,20 +55,6 @@ pub(crate) fn deploy(
     Ok(())
 }
 
-// Equal flights, with a program in place of that of a number.
-fn corrected_flights(
-    alloc: Global,
-    flights: &Flights,
-    number: u64,
-    program: &Shared<Deployed>,
-) -> Result<Flights, NoMemory>
-    ensures { IfOk result (λ copy. copy.list ≡ map (corrected_flight number program.now) flights.now.list) }
-{
-    let mut copy = flights.copied(alloc)?;
-    copy.correct(alloc, number, program)?;
-    Ok(copy)
-}
-
 // Puts a program in place of the newest, where that has this number.
 fn renew(newest: &mut Shared<Deployed>, number: u64, program: Shared<Deployed>)
     ensures { newest.new ≡ newest_by number program newest.old }
@@ -92,7 +76,7 @@ fn put_in_place(
     ensures journal { parts.new.journal ≡ parts.old.journal }
     ensures aloft { aloft parts.new.flights.list ≡ aloft parts.old.flights.list }
 {
-    let flights = corrected_flights(alloc, &parts.flights, number, &program)?;
+    let flights = parts.flights.corrected(alloc, number, &program)?;
     parts.repairer.correct(alloc, number, &program)?;
     parts.flights = flights;
     renew(&mut parts.newest, number, program);
