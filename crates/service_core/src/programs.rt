@@ -1,5 +1,5 @@
 // Which programs are in use at a service, and by how many.
-ghost use Rattle.std.specs.Prelude.{◌≡◌, [], ◌∷◌, IfOk, OnOk, filter, length, map};
+ghost use Rattle.std.specs.Prelude.{◌≡◌, [], ◌∷◌, IfOk, OnOk, filter, length, map, nat_eq};
 ghost use Rattle.request_log.specs.Entries.{has_program};
 ghost use Rattle.request_log.specs.declared.entry.Entry.{Entry};
 ghost use Rattle.flights.specs.Corrections.{has_program as is_under};
@@ -12,7 +12,7 @@ use lang_core::{Copied, NoMemory, Seq, Shared};
 use lang_lists::{Numbered, Sorted};
 use lang_programs::{Deployed, NumberedText};
 use request_log::KeptEntry;
-use service_parts::Parts;
+use service_parts::{Parts, next_of};
 use std::alloc::Global;
 use std::marker::Model;
 
@@ -117,32 +117,47 @@ fn programs_held(alloc: Global, parts: &Parts) -> Result<Sorted<Held>, NoMemory>
 
 // ---- how many have one
 
-fn count_entries(entries: &[KeptEntry], number: u64) -> u64
-    ensures { result ≡ length (filter (has_program number) entries.now) }
+fn has_program(program: &Shared<Deployed>, number: u64) -> bool
+    ensures { result ≡ nat_eq program.now.number number }
 {
-    entries
-        .iter()
-        .filter(|kept| kept.entry().under.now().get().number() == number)
-        .count() as u64
+    program.get().number() == number
 }
 
-fn count_flights(flights: &[Flight], number: u64) -> u64
-    ensures { result ≡ length (filter (is_under number) flights.now) }
+fn count_entries(entries: &[KeptEntry], number: u64) -> Result<u64, NoMemory>
+    ensures { IfOk result (λ count. count ≡ length (filter (has_program number) entries.now)) }
 {
-    flights
-        .iter()
-        .filter(|flight| flight.program.get().number() == number)
-        .count() as u64
+    let mut count = 0;
+    for kept in entries {
+        if has_program(kept.entry().under.now(), number) {
+            count = next_of(count)?;
+        }
+    }
+    Ok(count)
 }
 
+fn count_flights(flights: &[Flight], number: u64) -> Result<u64, NoMemory>
+    ensures { IfOk result (λ count. count ≡ length (filter (is_under number) flights.now)) }
+{
+    let mut count = 0;
+    for flight in flights {
+        if has_program(&flight.program, number) {
+            count = next_of(count)?;
+        }
+    }
+    Ok(count)
+}
+
+#[tactic(auto, using(service_parts::proofs::WholeLemmas::unfolded_kept))]
 fn use_of(alloc: Global, parts: &Parts, held: &Held) -> Result<ProgramInUse, NoMemory>
     ensures { IfOk result (λ used. used ≡ use_of (kept parts.now) held.now) }
 {
     let number = held.number();
+    let entries = count_entries(parts.repairer.log().as_slice(), number)?;
+    let flights = count_flights(parts.flights.as_slice(), number)?;
     Ok(ProgramInUse {
         program: held.program.copied(alloc)?,
-        entries: count_entries(parts.repairer.log().as_slice(), number),
-        flights: count_flights(parts.flights.as_slice(), number),
+        entries,
+        flights,
     })
 }
 
