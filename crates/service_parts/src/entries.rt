@@ -15,9 +15,9 @@ use local_repair::Repairer;
 use request_log::{Deployed, Entry, KeptEntry, Log, Under};
 use std::alloc::Global;
 
-/// The number of the next entry of a log.
+// The number of the next entry of a log.
 #[tactic(auto, using(crate::proofs::WholeLemmas::many_in_all))]
-pub fn next_in(log: &Log) -> u64
+fn next_in(log: &Log) -> u64
     ensures { result ≡ length (whole log.now.folded log.now.entries) + 1 }
 {
     let folded = log.folded().as_slice().len() as u64;

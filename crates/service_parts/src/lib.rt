@@ -24,8 +24,7 @@ pub use applying::{note_draft, push_rows, reserve, reserve_draft};
 pub use asking::{decision_by, path_of};
 pub use draft::{Draft, next_index, next_number, note, note_row, start, tell};
 pub use entries::{
-    amend, append, created, id_from, insert, next_id, next_in, request_from, request_of, rewrite,
-    set_struck,
+    amend, append, created, id_from, insert, next_id, request_from, request_of, rewrite, set_struck,
 };
 pub use limits::{MOST_PROGRAMS, is_crowded, is_heavy, is_programmed};
 pub use noting::note_rows;
