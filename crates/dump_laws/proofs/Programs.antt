@@ -13,7 +13,7 @@ use Rattle.journal_rows.specs.declared.orders.Command.{Command}
 use Rattle.journal_rows.specs.declared.orders.Command.TheVariants.{Deploy, Correct}
 use Rattle.journal_rows.specs.declared.row.Row.{Row}
 use Rattle.journal_rows.specs.declared.row.Row.TheVariants.{Ordered}
-use Rattle.service_events.specs.Fits.{Fits, IsThere, IsUnder as IsInUse, WasUnder}
+use Rattle.service_events.specs.Fits.{Fits, IsThere, IsUnder, WasUnder}
 use Rattle.service_events.specs.State.{Kept, folded, unfolded}
 use Rattle.dump_tables.specs.Programs.{numbered}
 use Rattle.dump_laws.specs.Dumped.{brought_programs}
@@ -76,7 +76,7 @@ pub each_there : (s : Kept) → Fits s → AllByRecursion (HasItsProgram s) s.en
 each_there s fits =
     let first = s.setting.program in
     let past = All-weaker (WasUnder first s.journal) (HasItsProgram s) (λ e was. was.there) (folded s) fits.programs.past in
-    let rest = All-weaker (IsInUse first s.journal) (HasItsProgram s) (λ e is. is.now.there) (unfolded s) fits.programs.entries in
+    let rest = All-weaker (IsUnder first s.journal) (HasItsProgram s) (λ e is. is.now.there) (unfolded s) fits.programs.entries in
     let Each : List Entry → Type 0 = λ es. All (HasItsProgram s) es in
     recursion_from_All (HasItsProgram s) s.entries
     (subst Each (take-append-drop s.horizon s.entries) (All-append (HasItsProgram s) (folded s) (unfolded s) past rest))
