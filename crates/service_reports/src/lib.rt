@@ -2,7 +2,6 @@
 //! would come to.
 #![tactic(auto)]
 
-mod in_use;
 mod lines;
 mod previews;
 mod programs;

@@ -3,18 +3,17 @@ ghost use Rattle.std.specs.Prelude.{◌≡◌, ◌++◌, IfOk, OnOk, string_byte
 ghost use Rattle.std.specs.List.{flat_map};
 ghost use Rattle.service_reports.specs.Programs.{counts_text, newest_behind, program_line, programs_of_service, rules_line};
 
-use crate::in_use::{entries_under, flights_under, programs_in_use};
-use lang_core::{NoMemory, Shared, Text};
-use lang_programs::NumberedText;
-use preview_core::Service;
+use lang_core::{NoMemory, Text};
+use preview_core::{ProgramInUse, Service};
 use report_text::push_body_behind;
 use std::alloc::Global;
 
-fn push_counts(text: &mut String, service: &Service, number: u64) -> Result<(), NoMemory>
-    ensures { OnOk result (string_bytes text.new ≡ string_bytes text.old ++ counts_text service.now number) }
+fn push_counts(text: &mut String, program: &ProgramInUse) -> Result<(), NoMemory>
+    ensures { OnOk result (string_bytes text.new ≡ string_bytes text.old ++ counts_text program.now) }
 {
-    let entries = entries_under(service.entries().as_slice(), number);
-    let flights = flights_under(service.flights().as_slice(), number);
+    let number = program.program.get().number;
+    let entries = program.entries;
+    let flights = program.flights;
     write!(text, "program {number} entries {entries} flights {flights}")?;
     Ok(())
 }
@@ -28,29 +27,22 @@ fn push_newest(text: &mut String, is_newest: bool) -> Result<(), NoMemory>
     Ok(())
 }
 
-fn push_program(
-    text: &mut String,
-    service: &Service,
-    program: &NumberedText,
-) -> Result<(), NoMemory>
-    ensures { OnOk result (string_bytes text.new ≡ string_bytes text.old ++ program_line service.now program.now) }
+fn push_program(text: &mut String, newest: u64, program: &ProgramInUse) -> Result<(), NoMemory>
+    ensures { OnOk result (string_bytes text.new ≡ string_bytes text.old ++ program_line newest program.now) }
 {
-    push_counts(text, service, program.number)?;
-    push_newest(text, program.number == service.newest().get().number())?;
-    push_body_behind(text, program.text.get().text().as_str())?;
+    let kept = program.program.get();
+    push_counts(text, program)?;
+    push_newest(text, kept.number == newest)?;
+    push_body_behind(text, kept.text.get().text().as_str())?;
     text.push_str("\n")?;
     Ok(())
 }
 
-fn push_programs(
-    text: &mut String,
-    service: &Service,
-    programs: &[Shared<NumberedText>],
-) -> Result<(), NoMemory>
-    ensures { OnOk result (string_bytes text.new ≡ string_bytes text.old ++ flat_map (program_line service.now) programs.now) }
+fn push_programs(text: &mut String, newest: u64, programs: &[ProgramInUse]) -> Result<(), NoMemory>
+    ensures { OnOk result (string_bytes text.new ≡ string_bytes text.old ++ flat_map (program_line newest) programs.now) }
 {
     for program in programs {
-        push_program(text, service, program.get())?;
+        push_program(text, newest, program)?;
     }
     Ok(())
 }
@@ -70,9 +62,13 @@ fn push_rules(text: &mut String, service: &Service) -> Result<(), NoMemory>
 pub fn programs_of(alloc: Global, service: &Service) -> Result<Text, NoMemory>
     ensures { IfOk result (λ text. text ≡ programs_of_service service.now) }
 {
-    let programs = programs_in_use(alloc, service)?;
+    let programs = service.programs(alloc)?;
     let mut lines = String::new(alloc);
-    push_programs(&mut lines, service, &programs)?;
+    push_programs(
+        &mut lines,
+        service.newest().get().number(),
+        programs.as_slice(),
+    )?;
     push_rules(&mut lines, service)?;
     Text::shared(lines)
 }
