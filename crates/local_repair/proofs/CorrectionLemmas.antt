@@ -71,7 +71,7 @@ by_own consumed rows e x (Some m) same h handler = record {
 }
 
 -- it is current exactly where the other isn't stale by another cause, and its handler is that of its record
-current_by_handler : (consumed : Consumed) (rows : List Cell) (e x : Entry) → IsButProgram e x → IsCurrent consumed rows x ↔ (IsCurrentButHandler consumed rows e × HasItsHandler x)
+pub current_by_handler : (consumed : Consumed) (rows : List Cell) (e x : Entry) → IsButProgram e x → IsCurrent consumed rows x ↔ (IsCurrentButHandler consumed rows e × HasItsHandler x)
 current_by_handler consumed rows e x same =
     let P : Option Made → Type 0 = λ o. IsSomeAnd o (λ m. IsCurrentRecord consumed rows x m) in (
       λ h. by_any consumed rows e x e.made same (subst P same.made h),
