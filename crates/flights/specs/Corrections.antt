@@ -1,5 +1,5 @@
 -- Flights under another program.
-use Rattle.std.specs.Prelude.{ℕ, Bool, List, if◌then◌else◌, nat_eq}
+use Rattle.std.specs.Prelude.{ℕ, Bool, if◌then◌else◌, nat_eq}
 use Rattle.lang_programs.specs.Numbered.{Numbered}
 use Rattle.flights.specs.declared.flight.Flight.{Flight}
 

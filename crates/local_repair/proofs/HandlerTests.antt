@@ -1,5 +1,5 @@
 -- What the tests of an entry's handler say.
-use Rattle.std.proofs.Common.{◌≡◌, ◌↔◌, Bool, true, false, not, IsTrue, refl, sym, ap, ◌∙◌}
+use Rattle.std.proofs.Common.{◌≡◌, ◌↔◌, Bool, true, false, not, IsTrue, refl, ap}
 use Rattle.execution.specs.HandedOn.{handler_of}
 use Rattle.request_log.specs.Entries.{is_alive}
 use Rattle.request_log.specs.HandedOn.{Numbered}

@@ -1,12 +1,11 @@
 -- A program in place of another one, for each entry that has it: what the loop over the entries leaves, and that a log is one still.
-use Rattle.std.proofs.Common.{◌≡◌, ℕ, zero, suc, ◌+◌, ◌<◌, ◌≤◌, Bool, true, false, cond, List, [], ◌∷◌, ◌++◌, length, map, set, get_or, take, Option, Some, None, find, nat_eq, refl, sym, ap, ◌∙◌, subst, arith, add-one, get_or-set_other}
+use Rattle.std.proofs.Common.{◌≡◌, ℕ, zero, suc, ◌+◌, ◌<◌, ◌≤◌, Bool, true, false, cond, List, [], ◌∷◌, ◌++◌, length, map, set, get_or, take, Option, Some, None, find, nat_eq, refl, sym, ap, ◌∙◌, subst, arith, add-one}
 use Rattle.std.proofs.lemmas.List.{length-map, take_all}
-use Rattle.std.proofs.Math.ListN.{length-set}
 use Rattle.lang_programs.specs.Numbered.{Numbered}
 use Rattle.request_log.specs.declared.entry.Entry.{Entry}
 use Rattle.request_log.specs.declared.folded.Folded.{Folded}
 use Rattle.request_log.specs.Corrections.{all_given, given, given_for}
-use Rattle.request_log.specs.Entries.{corrected, find_call, has_id, has_program, with_correction, IsDistinct, IsNew, KeptLog}
+use Rattle.request_log.specs.Entries.{corrected, find_call, has_id, has_program, with_correction, IsDistinct, IsNew}
 use Rattle.request_log.specs.Folded.{as_entry, whole}
 use Rattle.request_log.specs.Keys.{entry_key, number_of, origin_key, IsIndexed}
 use Rattle.request_log.proofs.EntryLemmas.{find_call-is, from_call, not_first, nowhere}

@@ -1,6 +1,4 @@
-use Rattle.std.proofs.Common.{◌≡◌, ◌<◌, length, map, take, ap, ◌∙◌, arith}
-use Rattle.flights.specs.Corrections.{corrected_flight}
-use Rattle.flights.specs.Numbers.{with_flight}
+use Rattle.std.proofs.Common.{arith}
 use Rattle.flights.proofs.CorrectionLemmas.{corrected_more}
 use Rattle.flights.proofs.flights.all_corrected.Goals as goal
 

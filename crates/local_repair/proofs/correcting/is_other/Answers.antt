@@ -1,4 +1,4 @@
-use Rattle.std.proofs.Common.{◌≡◌, true, false, sym, ◌∙◌}
+use Rattle.std.proofs.Common.{◌∙◌}
 use Rattle.local_repair.proofs.HandlerTests.{not_both, not_false}
 use Rattle.local_repair.proofs.correcting.is_other.Goals as goal
 

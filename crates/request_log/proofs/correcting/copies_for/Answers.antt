@@ -1,5 +1,4 @@
 use Rattle.std.proofs.Common.{◌<◌, ◌∷◌, ◌++◌, [], length, map, take, sym, ap, ◌∙◌, add-one, arith}
-use Rattle.request_log.specs.declared.entry.Entry.{Entry}
 use Rattle.request_log.specs.Corrections.{given_for}
 use Rattle.request_log.proofs.FoldedLemmas.{map-more}
 use Rattle.request_log.proofs.correcting.copies_for.Goals as goal

@@ -1,4 +1,4 @@
-use Rattle.std.proofs.Common.{◌≡◌, ◌<◌, ◌≢◌, length, get_or, set, take, refl, sym, ap, ◌∙◌, arith, get_or-set_other}
+use Rattle.std.proofs.Common.{◌<◌, ◌≢◌, length, set, take, ap, ◌∙◌, arith, get_or-set_other}
 use Rattle.std.proofs.Math.ListN.{length-set}
 use Rattle.request_log.specs.Corrections.{given}
 use Rattle.request_log.proofs.CorrectLemmas.{all_taken, given_more, length_given}
