@@ -106,8 +106,10 @@ fn push_asked(
     set: &SetMessage,
     request: &Shared<Request>,
     inputs: &Shared<Inputs>,
+    program: &Shared<Deployed>,
     rows: &mut Vec<Row>,
 ) -> Result<(), NoMemory>
+    requires { program.now ≡ created_under (kept parts.now) set.now }
     ensures { OnOk result (rows.new.items ≡ rows.old.items ++ created_row (kept parts.now) set.now request.now inputs.now ∷ []) }
 {
     let asked = both(request.copied(alloc), inputs.copied(alloc));
@@ -117,7 +119,7 @@ fn push_asked(
         origin,
         request: asked.0,
         inputs: asked.1,
-        program: created_under(parts, set).get().number(),
+        program: program.get().number(),
     }))?;
     Ok(())
 }
@@ -141,20 +143,22 @@ pub(crate) fn taken_rows(alloc: Global, set: &SetMessage, rule: u32) -> Result<V
     Ok(rows)
 }
 
-/// The rows of a version that makes an entry, where this rule allowed it.
+/// The rows of a version that makes an entry, under the program of its place, where this rule allowed it.
 pub(crate) fn created_rows(
     alloc: Global,
     parts: &Parts,
     set: &SetMessage,
     request: &Shared<Request>,
     inputs: &Shared<Inputs>,
+    program: &Shared<Deployed>,
     rule: u32,
 ) -> Result<Vec<Row>, NoMemory>
+    requires { program.now ≡ created_under (kept parts.now) set.now }
     ensures { IfOk result (λ rows. rows.items ≡ created_rows rule (kept parts.now) set.now request.now inputs.now) }
 {
     let mut rows = Vec::new(alloc);
     push_took(alloc, set, rule, &mut rows)?;
-    push_asked(alloc, parts, set, request, inputs, &mut rows)?;
+    push_asked(alloc, parts, set, request, inputs, program, &mut rows)?;
     push_acked(alloc, set, &mut rows)?;
     Ok(rows)
 }
@@ -194,14 +198,13 @@ pub(crate) fn created_entry(
     set: &SetMessage,
     request: &Shared<Request>,
     inputs: &Shared<Inputs>,
+    program: &Shared<Deployed>,
 ) -> Result<KeptEntry, NoMemory>
+    requires { program.now ≡ created_under (kept parts.now) set.now }
     ensures { IfOk result (λ entry. entry ≡ created_entry (kept parts.now) set.now request.now inputs.now) }
 {
     let asked = both(request.copied(alloc), inputs.copied(alloc));
-    let begun = both(
-        origin_of(alloc, set),
-        created_under(parts, set).copied(alloc),
-    );
+    let begun = both(origin_of(alloc, set), program.copied(alloc));
     let (asked, (origin, program)) = both(asked, begun)?;
     let mut entry = created(alloc, next_id(parts), asked.0, asked.1, program);
     entry.origin = origin;
@@ -241,8 +244,8 @@ fn neighbour(parts: &Parts, caller: &Name, number: Option<u64>) -> Option<u64>
     id_from(parts.repairer.log(), caller, number?)
 }
 
-/// The place of the entry that a version makes, counted from 0 behind the folded entries.
-pub(crate) fn created_place(parts: &Parts, set: &SetMessage) -> u64
+// The place of the entry that a version makes, counted from 0 behind the folded entries.
+fn created_place(parts: &Parts, set: &SetMessage) -> u64
     ensures place { length parts.now.repairer.folded + result ≡ created_place (kept parts.now) set.now }
     ensures within { result ≤ length parts.now.repairer.entries }
 {
@@ -251,9 +254,21 @@ pub(crate) fn created_place(parts: &Parts, set: &SetMessage) -> u64
     place(parts.repairer.log(), before, after)
 }
 
-// The program of the entry that a version makes: that of its place.
-fn created_under<'a>(parts: &'a Parts, set: &SetMessage) -> &'a Shared<Deployed>
-    ensures { result.now ≡ created_under (kept parts.now) set.now }
+/// Where the entry that a version makes is put, counted from 0 behind the folded entries, and the program under which it runs
+/// there.
+#[derive(Clone, Copy, Drop)]
+pub(crate) struct Spot<'a> {
+    pub(crate) at: u64,
+    pub(crate) program: &'a Shared<Deployed>,
+}
+
+/// The spot of the entry that a version makes.
+pub(crate) fn spot_of<'a>(parts: &'a Parts, set: &SetMessage) -> Spot<'a>
+    ensures place { length parts.now.repairer.folded + result.at ≡ created_place (kept parts.now) set.now }
+    ensures within { result.at ≤ length parts.now.repairer.entries }
+    ensures program { result.program.now ≡ created_under (kept parts.now) set.now }
 {
-    program_for(parts, created_place(parts, set))
+    let at = created_place(parts, set);
+    let program = program_for(parts, at);
+    Spot { at, program }
 }

@@ -1,17 +1,17 @@
 // What taking a version is to answer and to leave, drafted.
-ghost use Rattle.std.specs.Prelude.{◌≡◌, false, None, Some, Ok, IfOk, length};
+ghost use Rattle.std.specs.Prelude.{◌≡◌, ◌+◌, ◌≤◌, false, None, Some, Ok, IfOk, length};
 ghost use Rattle.lang_core.specs.declared.inputs.Inputs.{Inputs};
 ghost use Rattle.request_log.specs.Entries.{find_call};
 ghost use Rattle.service_deliveries.specs.declared.take_changes.TakeChange.{TakeChange};
 ghost use Rattle.call_registers.specs.Replies.{made_due};
 ghost use Rattle.service_events.specs.State.{after, folded, is_in_flight};
 ghost use Rattle.service_events.specs.Fits.{Fits};
-ghost use Rattle.service_events.specs.Messages.{acked_again, at_reply_of, at_version, created_entry, created_place, created_reply, origin_of, take_event, take_rule, taken, taken_by};
+ghost use Rattle.service_events.specs.Messages.{acked_again, at_reply_of, at_version, created_entry, created_place, created_reply, created_under, origin_of, take_event, take_rule, taken, taken_by};
 ghost use Rattle.service_parts.specs.Parts.{kept, whole_log};
 ghost use Rattle.service_deliveries.specs.TakeChanges.{admission, changed_by, created_change, CanChange, Leaves};
 
 use crate::making::{
-    at_version, created_entry, created_place, created_reply, created_rows, index, known_rows,
+    Spot, at_version, created_entry, created_reply, created_rows, index, known_rows, spot_of,
     taken, taken_rows,
 };
 use crate::take_changes::{TakeChange, Taking};
@@ -97,16 +97,23 @@ fn create(
     set: &SetMessage,
     request: &Shared<Request>,
     inputs: &Shared<Inputs>,
+    spot: Spot<'_>,
 ) -> Result<TakeChange, NoMemory>
     requires fits { Fits (kept parts.now) }
     requires none { find_call (origin_of set.now) (whole_log parts.now.repairer) ≡ None }
+    requires place { length parts.now.repairer.folded + spot.at ≡ created_place (kept parts.now) set.now }
+    requires within { spot.at ≤ length parts.now.repairer.entries }
+    requires program { spot.program.now ≡ created_under (kept parts.now) set.now }
     ensures is { IfOk result (λ change. changed_by (kept parts.now) change ≡ created_change (kept parts.now) set.now (created_entry (kept parts.now) set.now request.now inputs.now) (created_reply (kept parts.now) set.now)) }
     ensures can { IfOk result (λ change. CanChange (kept parts.now) change) }
 {
-    let at = created_place(parts, set);
-    let entry = created_entry(alloc, parts, set, request, inputs)?;
+    let entry = created_entry(alloc, parts, set, request, inputs, spot.program)?;
     let reply = created_reply(alloc, parts, set)?;
-    Ok(TakeChange::Create { at, entry, reply })
+    Ok(TakeChange::Create {
+        at: spot.at,
+        entry,
+        reply,
+    })
 }
 
 // Its call has no entry, and makes one, which asks what its row says.
@@ -123,8 +130,9 @@ fn made(
     requires rule { rule ≡ take_rule (kept parts.now) set.now }
     ensures { IfOk result (λ t. Leaves (kept parts.now) t (after (taken_by (kept parts.now) set.now inputs.now None (Some request.now)) (Ok (taken set.now (Some (take_rule (kept parts.now) set.now)))))) }
 {
-    let rows = created_rows(alloc, parts, set, request, inputs, rule)?;
-    let change = create(alloc, parts, set, request, inputs)?;
+    let spot = spot_of(parts, set);
+    let rows = created_rows(alloc, parts, set, request, inputs, spot.program, rule)?;
+    let change = create(alloc, parts, set, request, inputs, spot)?;
     taking(alloc, set, Some(rule), rows, change)
 }
 

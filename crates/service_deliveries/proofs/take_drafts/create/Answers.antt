@@ -7,5 +7,5 @@ use Rattle.service_deliveries.proofs.take_drafts.create.Goals as goal
 
 pub returns-clause-can : goal.returns-clause-can
 returns-clause-can c =
-    can_create (kept c.args.parts.now) c.args.set.now c.args.request.now c.args.inputs.now c.created_place-at.result c.in_ok-entry.entry c.in_ok-reply.reply
-    c.requires.fits c.requires.none (subst (λ (l : List Entry). c.created_place-at.result ≤ length l) (sym (unfolded_kept c.args.parts.now)) c.created_place-at.ensures.within) c.in_ok-entry.ensures c.in_ok-reply.ensures
+    can_create (kept c.args.parts.now) c.args.set.now c.args.request.now c.args.inputs.now c.args.spot.at c.in_ok-entry.entry c.in_ok-reply.reply
+    c.requires.fits c.requires.none (subst (λ (l : List Entry). c.args.spot.at ≤ length l) (sym (unfolded_kept c.args.parts.now)) c.requires.within) c.in_ok-entry.ensures c.in_ok-reply.ensures
