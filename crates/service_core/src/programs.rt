@@ -1,7 +1,7 @@
 // Which programs are in use at a service, and by how many.
-ghost use Rattle.std.specs.Prelude.{◌≡◌, [], ◌∷◌, IfOk, OnOk, filter, length, map, nat_eq};
+ghost use Rattle.std.specs.Prelude.{◌≡◌, [], ◌∷◌, IfOk, OnOk, filter, length, map};
 ghost use Rattle.request_log.specs.Entries.{has_program};
-ghost use Rattle.request_log.specs.declared.entry.Entry.{Entry};
+ghost use Rattle.request_log.specs.declared.entry.Entry.{Entry as EntryValue};
 ghost use Rattle.flights.specs.Corrections.{has_program as is_under};
 ghost use Rattle.flights.specs.declared.flight.Flight.{Flight as FlightValue};
 ghost use Rattle.service_core.specs.Programs.{by_numbers, programs_held, programs_in_use, use_of};
@@ -11,8 +11,8 @@ use flights::Flight;
 use lang_core::{Copied, NoMemory, Seq, Shared};
 use lang_lists::{Numbered, Sorted};
 use lang_programs::{Deployed, NumberedText};
-use request_log::KeptEntry;
-use service_parts::{Parts, next_of};
+use request_log::{Entry, KeptEntry};
+use service_parts::Parts;
 use std::alloc::Global;
 use std::marker::Model;
 
@@ -83,7 +83,7 @@ fn put_entries(
     programs: &mut Sorted<Held>,
     entries: &[KeptEntry],
 ) -> Result<(), NoMemory>
-    ensures { OnOk result (programs.new.list ≡ by_numbers programs.old.list (map (λ (e : Entry). e.under.now) entries.now)) }
+    ensures { OnOk result (programs.new.list ≡ by_numbers programs.old.list (map (λ (e : EntryValue). e.under.now) entries.now)) }
 {
     for kept in entries {
         put(alloc, programs, kept.entry().under.now())?;
@@ -117,34 +117,34 @@ fn programs_held(alloc: Global, parts: &Parts) -> Result<Sorted<Held>, NoMemory>
 
 // ---- how many have one
 
-fn has_program(program: &Shared<Deployed>, number: u64) -> bool
-    ensures { result ≡ nat_eq program.now.number number }
+fn has_program(entry: &Entry, number: u64) -> bool
+    ensures { result ≡ has_program number entry.now }
 {
-    program.get().number() == number
+    entry.under.now().get().number() == number
 }
 
-fn count_entries(entries: &[KeptEntry], number: u64) -> Result<u64, NoMemory>
-    ensures { IfOk result (λ count. count ≡ length (filter (has_program number) entries.now)) }
+fn is_under(flight: &Flight, number: u64) -> bool
+    ensures { result ≡ is_under number flight.now }
 {
-    let mut count = 0;
-    for kept in entries {
-        if has_program(kept.entry().under.now(), number) {
-            count = next_of(count)?;
-        }
-    }
-    Ok(count)
+    flight.program.get().number() == number
 }
 
-fn count_flights(flights: &[Flight], number: u64) -> Result<u64, NoMemory>
-    ensures { IfOk result (λ count. count ≡ length (filter (is_under number) flights.now)) }
+fn count_entries(entries: &[KeptEntry], number: u64) -> u64
+    ensures { result ≡ length (filter (has_program number) entries.now) }
 {
-    let mut count = 0;
-    for flight in flights {
-        if has_program(&flight.program, number) {
-            count = next_of(count)?;
-        }
-    }
-    Ok(count)
+    entries
+        .iter()
+        .filter(|kept| has_program(kept.entry(), number))
+        .count() as u64
+}
+
+fn count_flights(flights: &[Flight], number: u64) -> u64
+    ensures { result ≡ length (filter (is_under number) flights.now) }
+{
+    flights
+        .iter()
+        .filter(|flight| is_under(flight, number))
+        .count() as u64
 }
 
 #[tactic(auto, using(service_parts::proofs::WholeLemmas::unfolded_kept))]
@@ -152,12 +152,10 @@ fn use_of(alloc: Global, parts: &Parts, held: &Held) -> Result<ProgramInUse, NoM
     ensures { IfOk result (λ used. used ≡ use_of (kept parts.now) held.now) }
 {
     let number = held.number();
-    let entries = count_entries(parts.repairer.log().as_slice(), number)?;
-    let flights = count_flights(parts.flights.as_slice(), number)?;
     Ok(ProgramInUse {
         program: held.program.copied(alloc)?,
-        entries,
-        flights,
+        entries: count_entries(parts.repairer.log().as_slice(), number),
+        flights: count_flights(parts.flights.as_slice(), number),
     })
 }
 
