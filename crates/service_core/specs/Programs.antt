@@ -7,7 +7,7 @@ use Rattle.request_log.specs.declared.entry.Entry.{Entry}
 use Rattle.flights.specs.Corrections.{has_program as is_under}
 use Rattle.flights.specs.declared.flight.Flight.{Flight}
 use Rattle.service_events.specs.State.{Kept, unfolded}
-pub use Rattle.service_core.specs.declared.programs.ProgramInUse.{ProgramInUse}
+use Rattle.service_core.specs.declared.programs.ProgramInUse.{ProgramInUse}
 
 -- the newest program, and those that entries have that aren't folded, and flights
 abbrev pub programs_held : Kept → List Numbered
