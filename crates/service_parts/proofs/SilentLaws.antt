@@ -18,7 +18,7 @@ use Rattle.journal_rows.specs.declared.caller.NotedRow.{NotedRow}
 use Rattle.journal_rows.specs.declared.orders.Command.{Command}
 use Rattle.journal_rows.specs.declared.orders.Command.TheVariants.{Cancel, Restore, Replace, Create, Retry, Fold, Deploy, Correct, Rules}
 use Rattle.journal_rows.specs.declared.orders.OrderedRow.{OrderedRow}
-use Rattle.journal_rows.specs.declared.row.Row.TheVariants.{Asked, Answered}
+use Rattle.journal_rows.specs.declared.row.Row.TheVariants.{Answered}
 use Rattle.call_registers.specs.Registers.{register, next_number, is_news, is_newer}
 use Rattle.call_registers.specs.declared.register.Hold.{Hold}
 use Rattle.call_registers.specs.declared.register.Register.{Register}
