@@ -1,5 +1,5 @@
 -- The programs of a service: its first and those that orders brought, each found by its number.
-use Rattle.std.proofs.Common.{◌≡◌, ℕ, zero, suc, ◌-◌, Bool, true, false, nat_eq, nat_lt, List, [], ◌∷◌, ◌++◌, Option, Some, None, fold, slice_get, refl, sym, ap, ◌∙◌, subst, arith, eqb-true}
+use Rattle.std.proofs.Common.{◌≡◌, ℕ, zero, suc, ◌-◌, Bool, true, false, cond, nat_eq, nat_lt, List, [], ◌∷◌, ◌++◌, Option, Some, None, fold, slice_get, refl, sym, ap, ◌∙◌, subst, arith, eq-eqb, eqb-true}
 use Rattle.std.proofs.lemmas.Bool.{ltb-true}
 use Rattle.std.specs.Prelude.{All}
 use Rattle.std.specs.List.{AllByRecursion}
@@ -15,7 +15,7 @@ use Rattle.journal_rows.specs.declared.row.Row.{Row}
 use Rattle.journal_rows.specs.declared.row.Row.TheVariants.{Ordered}
 use Rattle.service_events.specs.Fits.{Fits, IsThere, IsUnder, WasUnder}
 use Rattle.service_events.specs.State.{Kept, folded, unfolded}
-use Rattle.dump_tables.specs.Programs.{numbered}
+use Rattle.dump_tables.specs.Programs.{later_at, numbered}
 use Rattle.dump_laws.specs.Dumped.{brought_programs}
 use Rattle.dump_laws.specs.Forms.{IsProgram, IsWritten}
 
@@ -46,12 +46,18 @@ no_by false fails = refl
 
 numbered_so : (n : ℕ) (first : List Route) (later : List (List Route)) (p : List Route) → by_number n (first ∷ later) ≡ Some p → numbered n (record { first = first; later = later }) ≡ Some p
 numbered_so zero first later p h = absurd cc
-numbered_so (suc zero) first later p h = h
+numbered_so (suc zero) first later p h =
+    let one : nat_eq (suc zero) 1 ≡ true = eq-eqb (suc zero) 1 refl in
+    ap (λ (b : Bool). cond b (Some first) (later_at (suc zero) later)) one ∙ h
 numbered_so (suc (suc n)) first later p h =
-    let other : nat_eq (suc (suc n)) 1 ≡ false = no_by (nat_eq (suc (suc n)) 1) (λ yes. absurd (omega (arith, eqb-true (suc (suc n)) 1 yes))) in
-    let behind : nat_lt (suc (suc n)) 2 ≡ false = no_by (nat_lt (suc (suc n)) 2) (λ yes. absurd (omega (arith, ltb-true (suc (suc n)) 2 yes))) in
-    let place : suc (suc n) - 2 ≡ n = omega arith in
-    rw (other, behind, place) h
+    let m = suc (suc n) in
+    let other : nat_eq m 1 ≡ false = no_by (nat_eq m 1) (λ yes. absurd (omega (arith, eqb-true m 1 yes))) in
+    let behind : nat_lt m 2 ≡ false = no_by (nat_lt m 2) (λ yes. absurd (omega (arith, ltb-true m 2 yes))) in
+    let place : m - 2 ≡ n = omega arith in
+    ap (λ (b : Bool). cond b (Some first) (later_at m later)) other
+    ∙ ap (λ (b : Bool). cond b None (slice_get later (m - 2))) behind
+    ∙ ap (λ (k : ℕ). slice_get later k) place
+    ∙ h
 
 pub there_numbered : (s : Kept) (n : ℕ) (p : List Route) → by_number n (programs s.setting.program s.journal) ≡ Some p
     → numbered n (record { first = s.setting.program; later = brought_programs s }) ≡ Some p
