@@ -15,13 +15,13 @@ use Rattle.lang_base.proofs.text.Text.TheSendSync as text
 use Rattle.lang_core.proofs.ids.Name.TheSendSync as name
 use Rattle.wire_fields.proofs.named.ByName.TheSendSync as by_name
 use Rattle.node_core.proofs.tally.Tally.TheSendSync as tally
-use Rattle.node_core.proofs.pass.Pass.TheSendSync as pass
 use Rattle.node_core.proofs.state.OwnFolds.TheSendSync as folds
 use Rattle.node_core.specs.contracts.state.NodeState as state
 use Rattle.node_core.specs.contracts.nodes.Node as node
 use Rattle.node_core.specs.contracts.nodes.Nodes as nodes
 use Rattle.node_workers.specs.contracts.desk.Desk as desk
 use Rattle.node_run.proofs.last.LastCell.TheSendSync as last
+use Rattle.node_run.proofs.RowSends.{pass_send}
 use Rattle.node_run.proofs.ServiceSends.{service_send, setup_sync}
 use Rattle.node_run.specs.contracts.jobs.Repairs as repairs
 use Rattle.node_run.specs.contracts.jobs.Posts as posts
@@ -38,10 +38,10 @@ desk_sync : (κ : NamedLft) (R Q : RattleType) (g : Ghosts R.Denot) (g' : Ghosts
 desk_sync κ R Q g g' = recorded_sync (desk.the_field κ R Q g g').row _ _ (desk.the_type κ R Q g g').to_one (struct_sync (shape (desk.the_type κ R Q g g')) (shr_sync _ _ _ (tally.the_sync R Q g g'), (shr_sync _ _ _ (node_sync R g), (shr_sync _ _ _ setup_sync, (by_name.the_sync _ text.the_sync, (by_name.the_sync _ text.the_sync, tt))))))
 
 pub repairs_send : (κ : NamedLft) (R Q W D : RattleType) (g : Ghosts R.Denot) (g' : Ghosts Q.Denot) → IsSync W → IsSync D → IsSend (repairs.the_row κ R Q W D g g')
-repairs_send κ R Q W D g g' w d = recorded_send (repairs.the_field κ R Q W D g g').row _ _ (repairs.the_type κ R Q W D g g').to_one (struct_send (shape (repairs.the_type κ R Q W D g g')) (shr_send _ _ _ w, (heap.the_field_send, (shr_send _ _ _ (desk_sync κ R Q g g'), (shr_send _ _ _ d, (pass.the_field_send Q g', tt))))))
+repairs_send κ R Q W D g g' w d = recorded_send (repairs.the_field κ R Q W D g g').row _ _ (repairs.the_type κ R Q W D g g').to_one (struct_send (shape (repairs.the_type κ R Q W D g g')) (shr_send _ _ _ w, (heap.the_field_send, (shr_send _ _ _ (desk_sync κ R Q g g'), (shr_send _ _ _ d, (pass_send Q g', tt))))))
 
 pub posts_send : (κ : NamedLft) (R Q W L : RattleType) (g : Ghosts R.Denot) (g' : Ghosts Q.Denot) → IsSync W → IsSend L → IsSend (posts.the_row κ R Q W L g g')
-posts_send κ R Q W L g g' w l = recorded_send (posts.the_field κ R Q W L g g').row _ _ (posts.the_type κ R Q W L g g').to_one (struct_send (shape (posts.the_type κ R Q W L g g')) (shr_send _ _ _ w, (heap.the_field_send, (shr_send _ _ _ (desk_sync κ R Q g g'), (l, (pass.the_field_send Q g', tt))))))
+posts_send κ R Q W L g g' w l = recorded_send (posts.the_field κ R Q W L g g').row _ _ (posts.the_type κ R Q W L g g').to_one (struct_send (shape (posts.the_type κ R Q W L g g')) (shr_send _ _ _ w, (heap.the_field_send, (shr_send _ _ _ (desk_sync κ R Q g g'), (l, (pass_send Q g', tt))))))
 
 nodes_sync : (R Q : RattleType) (g : Ghosts R.Denot) (g' : Ghosts Q.Denot) → IsSync (nodes.the_row R Q g g')
 nodes_sync R Q g g' = recorded_sync (nodes.the_field R Q g g').row _ _ (nodes.the_type R Q g g').to_one (struct_sync (shape (nodes.the_type R Q g g')) (search (crosses, node_sync) depth 10, (tally.the_field_sync R Q g g', (search (sendable, crosses) depth 10, tt))))
@@ -52,4 +52,4 @@ shared_sync κ R Q C D G s k g g' c d e = recorded_sync (shared.the_field κ R Q
 
 pub requests_send : (κ : NamedLft) (R Q W E L D G C : RattleType) (s : Source.Ghosts C.Denot) (k : Sink.Ghosts C.Denot) (g : Ghosts R.Denot) (g' : Ghosts Q.Denot) → IsSync W → IsSync E → IsSend L → IsSync D → IsSync G → IsSend C → IsSend (requests.the_row κ R Q W E L D G C s k g g')
 requests_send κ R Q W E L D G C s k g g' w e l d o c = recorded_send (requests.the_field κ R Q W E L D G C s k g g').row _ _ (requests.the_type κ R Q W E L D G C s k g g').to_one (struct_send (shape (requests.the_type κ R Q W E L D G C s k g g'))
-    (shr_send _ _ _ w, (heap.the_field_send, (shr_send _ _ _ (shared_sync κ R Q C D G s k g g' c d o), (shr_send _ _ _ (desk_sync κ R Q g g'), (shr_send _ _ _ e, (l, (pass.the_field_send Q g', tt))))))))
+    (shr_send _ _ _ w, (heap.the_field_send, (shr_send _ _ _ (shared_sync κ R Q C D G s k g g' c d o), (shr_send _ _ _ (desk_sync κ R Q g g'), (shr_send _ _ _ e, (l, (pass_send Q g', tt))))))))

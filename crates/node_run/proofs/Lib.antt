@@ -2,9 +2,11 @@ pub mod DeskLemmas
 pub mod EndingLemmas
 pub mod JobSends
 pub mod JudgingLemmas
+pub mod LogSends
 pub mod LookingLemmas
 pub mod PeerLemmas
 pub mod RefusedLemmas
+pub mod RowSends
 pub mod TurnLemmas
 pub mod SameLemmas
 pub mod ServiceSends
