@@ -21,18 +21,24 @@ fn handler_of<'a>(program: &'a Program, request: &Request) -> Option<&'a Block>
     }
 }
 
+// Whether two handlers are the same, or none is there.
+fn alike(left: Option<&Block>, right: Option<&Block>) -> bool
+    ensures { IsTrue result ↔ (option_copied left ≡ option_copied right) }
+{
+    match (left, right) {
+        (None, None) => true,
+        (Some(left), Some(right)) => same_block(left, right),
+        _ => false,
+    }
+}
+
 /// Whether two programs have the same handler for a request, or both none: the block that runs, compared as a tree, wherever its
 /// route stands and whatever its pattern is. It takes no memory.
-#[tactic(auto, using(crate::proofs::SameHandlers::runs_alike))]
 pub fn same_handler(program: &Program, other: &Program, request: &Request) -> bool
     ensures same { IsTrue result ↔ (handler_of program.now request.now ≡ handler_of other.now request.now) }
     // Then the request runs alike under both, whatever else is given.
     ensures law { IsTrue result → (setting : Setting) (inputs : Inputs) (answers : List Response) (rows : List Cell)
         → run_of (with_program program.now setting) request.now inputs answers rows ≡ run_of (with_program other.now setting) request.now inputs answers rows }
 {
-    match (handler_of(program, request), handler_of(other, request)) {
-        (None, None) => true,
-        (Some(left), Some(right)) => same_block(left, right),
-        _ => false,
-    }
+    alike(handler_of(program, request), handler_of(other, request))
 }

@@ -1,0 +1,13 @@
+use Rattle.std.proofs.Common.{◌∙◌, sym}
+use Rattle.handler_run.proofs.SameHandlers.{runs_alike}
+use Rattle.handler_run.proofs.same.same_handler.Goals as goal
+
+pub returns-clause-same : goal.returns-clause-same
+returns-clause-same c = (
+  λ told. sym c.handler_of.ensures ∙ c.alike.ensures.0 told ∙ c.handler_of-2.ensures,
+  λ same. c.alike.ensures.1 (c.handler_of.ensures ∙ same ∙ sym c.handler_of-2.ensures),
+)
+
+pub returns-clause-law : goal.returns-clause-law
+returns-clause-law c told setting inputs answers rows =
+    runs_alike c.args.program.now c.args.other.now setting c.args.request.now inputs answers rows ((returns-clause-same c).0 told)
