@@ -1,10 +1,9 @@
 // Programs with their numbers.
 ghost use Rattle.std.specs.Prelude.{◌≡◌, IfOk};
-ghost use Rattle.lang_grammar.specs.Printing.{text_of};
 ghost use Rattle.lang_programs.specs.Numbered.{Numbered};
 
 use crate::program_text::ProgramText;
-use lang_core::{Copied, NoMemory, Program, Same, Shared, Text};
+use lang_core::{Copied, NoMemory, Program, Same, Shared};
 use std::alloc::Global;
 use std::marker::Model;
 

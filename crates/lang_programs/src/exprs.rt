@@ -1,7 +1,7 @@
 // Equality of expressions.
 ghost use Rattle.std.specs.Prelude.{◌≡◌, ◌↔◌, IsTrue};
 
-use lang_core::{Expr, Op, Same, Text};
+use lang_core::{Expr, Same};
 
 /// Whether two expressions are the same, part by part.
 pub fn same_expr(left: &Expr, right: &Expr) -> bool
