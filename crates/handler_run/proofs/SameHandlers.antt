@@ -16,7 +16,7 @@ use Rattle.handler_run.specs.declared.state.Ran.{Ran}
 use Rattle.handler_run.specs.declared.state.Ran.TheVariants.{Done}
 
 -- the run of a handler
-run_handler : Option Block → Given → List Cell → Ran
+abbrev run_handler : Option Block → Given → List Cell → Ran
 run_handler None g rows = Done not_found
 run_handler (Some b) g rows = run_block b g rows
 

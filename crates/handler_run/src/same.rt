@@ -23,7 +23,7 @@ fn handler_of<'a>(program: &'a Program, request: &Request) -> Option<&'a Block>
 
 // Whether two handlers are the same, or none is there.
 fn alike(left: Option<&Block>, right: Option<&Block>) -> bool
-    ensures { IsTrue result ↔ (option_copied left ≡ option_copied right) }
+    ensures { IsTrue result ↔ (option_copied left.entry ≡ option_copied right.entry) }
 {
     match (left, right) {
         (None, None) => true,
