@@ -1,5 +1,5 @@
 -- A program in place of another one: which entries are stale then, and what is kept of them.
-use Rattle.std.proofs.Common.{◌≡◌, ◌↔◌, ℕ, ◌<◌, Bool, true, false, cond, List, [], ◌∷◌, Option, Some, None, IfSome, IsSomeAnd, All, Contains, nat_eq, length, get_or, take, map, refl, sym, ap, ◌∙◌, subst, inl, inr, arith, ◌+◌, ◌||◌}
+use Rattle.std.proofs.Common.{◌≡◌, ◌↔◌, ℕ, ◌<◌, ◌≤◌, Bool, true, false, cond, List, [], ◌∷◌, Option, Some, None, IfSome, IsSomeAnd, All, Contains, nat_eq, length, get_or, take, map, refl, sym, ap, ◌∙◌, subst, inl, inr, arith, ◌+◌, ◌||◌}
 use Rattle.std.proofs.lemmas.Bool.{cases_lt}
 use Rattle.std.proofs.lemmas.List.{get_or-map, get_or_default, length-map}
 use Rattle.std.proofs.lemmas.List.Elements.{All-map, All-weaker}
@@ -158,9 +158,9 @@ module _ (number : ℕ) (p : Numbered) where
       }
     where
       by_handler : (e : Entry) (b : Bool) → has_program number e ≡ b → (has_program p.number (change e) ≡ true → HasItsHandler (change e)) → nat_eq p.number p.number ≡ true → b ≡ true → HasItsHandler (with_correction p e)
-      by_handler e b is h same yes =
+      by_handler e b is h same told =
           let H : Entry → Type 0 = λ x. has_program p.number x ≡ true → HasItsHandler x in
-          let there : change e ≡ with_correction p e = ap (λ c. cond c (with_correction p e) e) (is ∙ yes) in
+          let there : change e ≡ with_correction p e = ap (λ c. cond c (with_correction p e) e) (is ∙ told) in
           subst H there h same
 
   -- ---- what else holds of them still

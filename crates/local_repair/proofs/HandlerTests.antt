@@ -12,15 +12,15 @@ not_both false f t = cc
 
 -- a dead entry has it
 pub dead_has : (e : Entry) → is_alive e ≡ false → IsTrue true ↔ HasItsHandler e
-dead_has e dead = (λ yes alive. not_both (is_alive e) dead alive, λ has. refl)
+dead_has e dead = (λ passed alive. not_both (is_alive e) dead alive, λ has. refl)
 
 -- so has one whose record was made under its program
 pub settled_has : (e : Entry) → e.under.ran ≡ e.under.now → IsTrue true ↔ HasItsHandler e
-settled_has e is = (λ yes alive. ap (λ (n : Numbered). handler_of n.program e.request) is, λ has. refl)
+settled_has e is = (λ passed alive. ap (λ (n : Numbered). handler_of n.program e.request) is, λ has. refl)
 
 -- and of others the handlers tell
 pub alive_has : (b : Bool) (e : Entry) → is_alive e ≡ true → IsTrue b ↔ (handler_of e.under.ran.program e.request ≡ handler_of e.under.now.program e.request) → IsTrue b ↔ HasItsHandler e
-alive_has b e alive told = (λ yes again. told.0 yes, λ has. told.1 (has alive))
+alive_has b e alive told = (λ passed again. told.0 passed, λ has. told.1 (has alive))
 
 pub not_false : (b : Bool) → not b ≡ false → b ≡ true
 not_false true h = refl
