@@ -7,6 +7,7 @@ use Rattle.lang_base.specs.Equal.{equal}
 use Rattle.lang_core.specs.Traces.{dead_trace}
 use Rattle.lang_core.specs.contracts.trace.CallMade as call_made
 use Rattle.lang_core.specs.declared.trace.CallMade.{CallMade}
+use Rattle.lang_programs.specs.Settings.{with_program}
 use Rattle.handler_run.specs.declared.state.Ran.{Ran}
 use Rattle.handler_run.specs.declared.state.Ran.TheVariants.{Done, Wants}
 use Rattle.handler_run.proofs.RunLaws.{takes_done, counts_done}

@@ -1,8 +1,8 @@
 -- The events of live requests keep what follows from the journal of programs: a flight goes on under its own, and its entry has it.
-use Rattle.std.proofs.Common.{◌≡◌, ℕ, zero, suc, ◌≤◌, List, [], ◌∷◌, ◌++◌, All, Option, Some, None, Result, Err, drop, length, nat_eq, nat_le, nat_lt, not, slice_get, take, refl, sym, ap, ◌∙◌, subst, append_assoc, eq-eqb}
+use Rattle.std.proofs.Common.{◌≡◌, ℕ, zero, suc, ◌≤◌, List, [], ◌∷◌, ◌++◌, All, Option, Some, None, Result, Err, drop, length, nat_eq, nat_le, nat_lt, not, slice_get, refl, sym, ap, ◌∙◌, subst, append_assoc, eq-eqb}
 use Rattle.std.specs.List.{AllByRecursion as Each}
 use Rattle.std.proofs.lemmas.Bool.{cond_both}
-use Rattle.std.proofs.lemmas.List.Elements.{All-cons, All-filter, All-head, All-nil, All-push, All-tail}
+use Rattle.std.proofs.lemmas.List.Elements.{All-cons, All-filter, All-head, All-push, All-tail}
 use Rattle.lang_core.specs.Traces.{dead_trace}
 use Rattle.lang_core.specs.declared.ids.Origin.{Origin}
 use Rattle.lang_core.specs.declared.ids.Origin.TheVariants.{Outside, Call}
@@ -24,7 +24,7 @@ use Rattle.journal_rows.specs.Words.{asked, asked_step, last_taken}
 use Rattle.journal_rows.specs.declared.callee.AskedRow.{AskedRow}
 use Rattle.journal_rows.specs.declared.callee.TookRow.{TookRow}
 use Rattle.journal_rows.specs.declared.row.Row.{Row}
-use Rattle.journal_rows.specs.declared.row.Row.TheVariants.{Asked, Took, Sent, SawAck, Noted, SawAnswer, Confirmed}
+use Rattle.journal_rows.specs.declared.row.Row.TheVariants.{Asked, Sent, SawAck, Noted, SawAnswer, Confirmed}
 use Rattle.call_registers.specs.Registers.{next_number, register}
 use Rattle.call_registers.specs.declared.register.Why.{Why}
 use Rattle.flights.specs.Moves.{calls_in, next_move}
@@ -34,7 +34,7 @@ use Rattle.flights.specs.declared.flight.Move.TheVariants.{Commit, Name, Change}
 use Rattle.service_events.specs.Arriving.{abandoned, accepted, admitted, answered_flight, arrives_or_known, by_version, failed_flight, is_for, is_new_to, known_by, live_answer_rows, new_flight, told, unless_gone}
 use Rattle.service_events.specs.Calls.{all_deleted, named, noted}
 use Rattle.service_events.specs.Fits.{Fits, FitsPrograms, IsInUse, IsThere, IsUnder, ProgramsFollow}
-use Rattle.service_events.specs.Flying.{awaited, before_answer, call_or_none, change_rows, changed, changed_unsent, committed, committed_entry, completed, completing, flight_run, goes_on, live_answer, moved, named_unsent, surplus_rows, took_rows, waits, wanted_of, with_change, with_slot}
+use Rattle.service_events.specs.Flying.{awaited, change_rows, changed, changed_unsent, committed, committed_entry, completed, completing, flight_run, goes_on, live_answer, moved, named_unsent, surplus_rows, took_rows, waits, wanted_of, with_change, with_slot}
 use Rattle.service_events.specs.State.{Kept, After, after, flight_of, folded, has_flight, is_crowded, is_heavy, next_id, or_else, put_flight, unfolded, with_flight, without_flight}
 use Rattle.service_events.specs.declared.answers.Arrived.{Arrived}
 use Rattle.service_events.specs.declared.refusals.ArriveRefused.{ArriveRefused}

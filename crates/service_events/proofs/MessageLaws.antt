@@ -26,7 +26,7 @@ use Rattle.call_registers.specs.declared.register.Hold.{Hold}
 use Rattle.call_registers.specs.declared.register.Register.{Register}
 use Rattle.call_registers.specs.Replies.{reply, at_entry, with_taken, made_due}
 use Rattle.flights.specs.declared.flight.Flight.{Flight}
-use Rattle.service_events.specs.State.{Kept, after, me, next_id, is_in_flight, same_call_origin}
+use Rattle.service_events.specs.State.{Kept, after, me, is_in_flight, same_call_origin}
 use Rattle.service_events.specs.Calls.{noted}
 use Rattle.service_events.specs.Messages.{take_rule, take_new, origin_of, is_known, is_too_much, acked_row, took_row, at_reply_of, acked_again, created_entry, created_reply, created_place, created_row, at_version, taken_by, take_admitted, confirmed_row, noted_row, heard, hear_rule, hear_allowed, hear_new, token_taken_where, fetched_row, fetched_by, fetched, had_call, is_ack_of, replies_to, had, is_now, hold_of, held_back, held_where, saw_ack_row, was_confirmed_row, confirmed_reply, posted}
 use Rattle.service_events.specs.declared.answers.PostReply.{PostReply}

@@ -1,5 +1,5 @@
 -- An order keeps what fits of calls.
-use Rattle.std.proofs.Common.{◌≡◌, ℕ, true, false, List, [], ◌∷◌, ◌++◌, Option, Some, None, map, insert, refl, sym, subst, inl, inr, if◌then◌else◌, append-nil, length, find}
+use Rattle.std.proofs.Common.{◌≡◌, ℕ, true, false, List, [], ◌∷◌, ◌++◌, Option, Some, None, map, insert, refl, sym, ap, ◌∙◌, subst, inl, inr, if◌then◌else◌, append-nil, length, find}
 use Rattle.std.proofs.lemmas.Bool.{cases_Bool, cond_both}
 use Rattle.std.proofs.lemmas.List.{map-append}
 use Rattle.lang_core.specs.declared.inputs.Inputs.{Inputs}

@@ -10,7 +10,7 @@ use Rattle.lang_programs.specs.Numbered.{Numbered}
 use Rattle.request_log.specs.declared.entry.Entry.{Entry}
 use Rattle.authorise_rules.specs.Given.{GivenRules}
 use Rattle.journal_rows.specs.Programs.{brought_step, by_number, corrects, counted, is_number, is_replaced, move_step, moved, newer, newest_now, newest_step, program_count, program_now, program_step, programs, replaced_step, ruled, rules_now, rules_step, with_brought}
-use Rattle.journal_rows.specs.Words.{asked, asked_step, first_asked}
+use Rattle.journal_rows.specs.Words.{asked, asked_step}
 use Rattle.journal_rows.specs.declared.callee.AskedRow.{AskedRow}
 use Rattle.journal_rows.specs.declared.orders.About.{About}
 use Rattle.journal_rows.specs.declared.orders.Command.{Command}

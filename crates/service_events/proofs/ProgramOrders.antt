@@ -1,6 +1,6 @@
 -- What orders of programs and of rules make of what follows from a journal of these: a new program has the next number, and stands in an
 -- earlier one's place where it is a correction.
-use Rattle.std.proofs.Common.{◌≡◌, ℕ, ◌+◌, true, false, List, [], ◌∷◌, ◌++◌, All, Option, map, nat_eq, refl, sym, ap, ◌∙◌, inl, inr, arith, ne_eqb, if◌then◌else◌}
+use Rattle.std.proofs.Common.{◌≡◌, ℕ, ◌+◌, true, false, List, [], ◌∷◌, ◌++◌, Option, map, nat_eq, refl, sym, ap, ◌∙◌, inl, inr, arith, ne_eqb, if◌then◌else◌}
 use Rattle.std.proofs.lemmas.Bool.{cases_Bool, cond-true, cond-false}
 use Rattle.std.proofs.lemmas.List.Elements.{All-map, All-weaker}
 use Rattle.std.proofs.lemmas.List.Sums.{fold_push}
@@ -17,12 +17,11 @@ use Rattle.journal_rows.specs.declared.orders.About.{About}
 use Rattle.journal_rows.specs.declared.orders.About.TheVariants.{Program as AboutProgram, Rules as AboutRules}
 use Rattle.journal_rows.specs.declared.orders.Command.{Command}
 use Rattle.journal_rows.specs.declared.orders.Command.TheVariants.{Deploy, Correct, Rules}
-use Rattle.journal_rows.specs.declared.orders.OrderedRow.{OrderedRow}
 use Rattle.journal_rows.specs.declared.row.Row.{Row}
 use Rattle.journal_rows.specs.declared.row.Row.TheVariants.{Ordered}
 use Rattle.flights.specs.Corrections.{corrected_flight}
 use Rattle.flights.specs.declared.flight.Flight.{Flight}
-use Rattle.service_events.specs.Fits.{HasNumber, IsInUse, IsThere, IsUnder, ProgramsFollow, ProgramsOn, WasUnder}
+use Rattle.service_events.specs.Fits.{HasNumber, IsInUse, IsUnder, ProgramsFollow, ProgramsOn, WasUnder}
 use Rattle.service_events.specs.Orders.{newest_by}
 use Rattle.service_events.proofs.CallRowLemmas.{EachAfter-append}
 use Rattle.service_events.proofs.ProgramLemmas.{KeepsPlaces, asked_more, free_above, last_there, number_most, some_at, there_more, under_more, use_more, was_more}

@@ -9,7 +9,6 @@ use Rattle.lang_core.specs.declared.ids.Origin.TheVariants.{Outside}
 use Rattle.lang_core.specs.declared.inputs.Inputs.{Inputs}
 use Rattle.lang_core.specs.declared.request.Request.{Request}
 use Rattle.lang_tree.specs.declared.program.Route.{Route}
-use Rattle.lang_programs.specs.Numbered.{Numbered}
 use Rattle.request_log.specs.Entries.{changed, find_call, has_id, has_origin, mark, replace, with_entry}
 use Rattle.request_log.specs.Folded.{bare, bare_by}
 use Rattle.request_log.specs.Records.{record_in}
@@ -34,15 +33,14 @@ use Rattle.journal_rows.specs.declared.orders.Command.{Command}
 use Rattle.journal_rows.specs.declared.orders.Command.TheVariants.{Cancel, Restore, Replace, Create, Retry, Fold, Deploy, Correct, Rules}
 use Rattle.journal_rows.specs.declared.orders.OrderedRow.{OrderedRow}
 use Rattle.journal_rows.specs.declared.row.Row.{Row}
-use Rattle.journal_rows.specs.declared.row.Row.TheVariants.{Answered, Asked, Ordered}
+use Rattle.journal_rows.specs.declared.row.Row.TheVariants.{Answered, Ordered}
 use Rattle.call_registers.specs.Registers.{is_news, is_newer, next_number, register}
 use Rattle.call_registers.specs.declared.register.Hold.{Hold}
 use Rattle.call_registers.specs.declared.register.Register.{Register}
-use Rattle.flights.specs.declared.flight.Flight.{Flight}
 use Rattle.service_events.specs.Calls.{noted}
 use Rattle.service_events.specs.Fits.{Fits, FitsPrograms, IsInUse, IsUnder, ProgramsFollow, WasUnder}
-use Rattle.service_events.specs.Messages.{acked_again, acked_row, at_version, confirmed_row, created_entry, created_place, created_row, created_under, fetched, fetched_row, hear_allowed, hear_new, hear_rule, heard, held_back, held_where, hold_of, is_known, is_now, neighbour, noted_row, origin_of, posted, saw_ack_row, take_admitted, take_new, taken, taken_by, token_taken_by, token_taken_where, took_row, was_confirmed_row}
-use Rattle.service_events.specs.Orders.{brought, carried_out, corrected_on, entry_of, first_unquiet, folded_on, made_under, misnamed, order_by, order_rows, order_rule, order_where, place_made, refused, released_post, to_fold}
+use Rattle.service_events.specs.Messages.{acked_again, acked_row, at_version, confirmed_row, created_entry, created_place, created_row, created_under, fetched, fetched_row, hear_new, hear_rule, heard, held_back, held_where, hold_of, is_known, is_now, neighbour, noted_row, origin_of, posted, saw_ack_row, take_admitted, take_new, taken, taken_by, token_taken_by, token_taken_where, took_row, was_confirmed_row}
+use Rattle.service_events.specs.Orders.{brought, carried_out, corrected_on, entry_of, first_unquiet, folded_on, made_under, order_by, order_rows, order_rule, order_where, place_made, refused, released_post, to_fold}
 use Rattle.service_events.specs.State.{Kept, after, answers, base, folded, next_id, program_for, program_or, unfolded, where_needed}
 use Rattle.service_events.specs.Steps.{Stale, answer_rows, new_numbers, new_record, sent_rows, stale_in, step_by}
 use Rattle.service_events.specs.declared.answers.PostReply.{PostReply}

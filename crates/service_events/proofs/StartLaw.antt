@@ -1,5 +1,5 @@
 -- A service without rows fits its journal, whatever its rules are, and each repair in it was allowed, as there is none.
-use Rattle.std.proofs.Common.{◌≡◌, true, false, ℕ, ◌<◌, List, refl, arith, []}
+use Rattle.std.proofs.Common.{◌≡◌, true, false, ℕ, ◌<◌, refl, arith, []}
 use Rattle.lang_core.specs.declared.setting.Setting.{Setting}
 use Rattle.authorise_rules.specs.Given.{GivenRules}
 use Rattle.service_events.specs.State.{fresh}
