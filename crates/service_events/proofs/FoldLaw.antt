@@ -207,7 +207,7 @@ there_alike None (Some y) h = absurd h
 there_alike (Some x) None h = absurd h
 there_alike (Some x) (Some y) h = refl
 
-count_alike : (xs ys : List Entry) → AreAlike xs ys → length ys ≡ length xs
+pub count_alike : (xs ys : List Entry) → AreAlike xs ys → length ys ≡ length xs
 count_alike [] [] h = refl
 count_alike [] (y ∷ ys) h = absurd h
 count_alike (x ∷ xs) [] h = absurd h
