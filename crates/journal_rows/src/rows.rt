@@ -45,12 +45,14 @@ impl Drop for Rows {
 
 impl Model for Rows {
     ghost use Rattle.std.specs.Prelude.{◌≡◌};
-    ghost use Rattle.journal_rows.specs.Journals.{Journal, journal_of};
+    ghost use Rattle.journal_rows.specs.Journals.{Journal, journal_code, journal_of};
     ghost use Rattle.journal_rows.specs.Keys.{AreKeys};
     ghost use Rattle.journal_rows.specs.Programs.{program_count};
     ghost use Rattle.journal_rows.specs.Weights.{journal_weight};
 
     ghost Value = { Journal };
+
+    ghost coded = { journal_code };
 
     ghost view = { λ j. journal_of j.rows j.index.spare };
 
