@@ -1,5 +1,5 @@
 -- What an order would come to, as it is replied.
-use Rattle.std.specs.Prelude.{ℕ, ◌≡◌, List, Option, Some, None, Result, Ok, Err, codes, option_and_then, option_map}
+use Rattle.std.specs.Prelude.{ℕ, ◌≡◌, List, Option, Result, Ok, Err, codes, option_and_then, option_map}
 use Rattle.std.specs.Option.{option_zip}
 use Rattle.lang_tree.specs.declared.program.Route.{Route}
 use Rattle.order_texts.specs.Texts.{program_given}

@@ -1,7 +1,7 @@
 -- A service may go to another thread, and threads may share what it is set up by. The compiler looks into no type that holds a
 -- program's tree, whose blocks hold blocks.
 use Prim.{tt}
-use denote.Param.Send.{IsSend, IsSync, sendable, struct_send, struct_sync, recorded_send, recorded_sync, view_send, view_sync}
+use denote.Param.Send.{IsSend, IsSync, sendable, struct_send, struct_sync, recorded_send, recorded_sync, view_send}
 use denote.Struct.Declared.{shape}
 use Rattle.std.proofs.Crossing.{crosses}
 use Rattle.lang_base.proofs.text.Text.TheSendSync as text
