@@ -16,7 +16,7 @@ use Rattle.std.proofs.lemmas.Bool.{and_from, and_parts}
 use Rattle.http_front.proofs.PlainLemmas.{decimal_plain, visible_plain}
 use Rattle.repair_messages.specs.Kinds.{kind_word, spelling as message_kind}
 use Rattle.repair_messages.specs.declared.kinds.Kind.{Kind}
-use Rattle.repair_messages.specs.declared.kinds.Kind.TheVariants.{Create, Replace, Delete, ReplaceResponse, Retry, Fold}
+use Rattle.repair_messages.specs.declared.kinds.Kind.TheVariants.{Create, Replace, Delete, ReplaceResponse, Retry, Fold, Deploy, Correct, Rules}
 use Rattle.repair_messages.specs.declared.messages.Fetch.{Fetch}
 use Rattle.repair_messages.specs.declared.messages.SetMessage.{SetMessage}
 use Rattle.repair_messages.specs.declared.messages.TokenMessage.{TokenMessage}
@@ -68,6 +68,9 @@ kind_plain Delete = visible_plain (codes "delete") refl
 kind_plain ReplaceResponse = visible_plain (codes "replace_response") refl
 kind_plain Retry = visible_plain (codes "retry") refl
 kind_plain Fold = visible_plain (codes "fold") refl
+kind_plain Deploy = visible_plain (codes "deploy") refl
+kind_plain Correct = visible_plain (codes "correct") refl
+kind_plain Rules = visible_plain (codes "rules") refl
 
 -- ---- calls
 

@@ -4,7 +4,7 @@ use Rattle.std.proofs.lemmas.List.Elements.{filter-append}
 use Rattle.lang_core.specs.declared.inputs.Inputs.{Inputs}
 use Rattle.journal_rows.specs.Words.{ordered}
 use Rattle.journal_rows.specs.declared.orders.Command.{Command}
-use Rattle.journal_rows.specs.declared.orders.Command.TheVariants.{Cancel, Restore, Replace, Create, Retry, Fold}
+use Rattle.journal_rows.specs.declared.orders.Command.TheVariants.{Cancel, Restore, Replace, Create, Retry, Fold, Deploy, Correct, Rules}
 use Rattle.journal_rows.specs.declared.orders.OrderedRow.{OrderedRow}
 use Rattle.journal_rows.specs.declared.row.Row.{Row}
 use Rattle.journal_rows.specs.declared.row.Row.TheVariants.{Ordered}
@@ -90,6 +90,9 @@ module _ (s t : Kept) (command : Command) (token who : List ℕ) (i : Inputs) wh
   asked_unordered (Replace id method path body) = tt
   asked_unordered (Retry name) = tt
   asked_unordered (Fold id) = tt
+  asked_unordered (Deploy program) = tt
+  asked_unordered (Correct number program) = tt
+  asked_unordered (Rules given) = tt
 
   noted_one : IsWritten → note_at (me t) (length s.journal) t.journal ≡ Some (order_note (me t) (length s.journal) row)
   noted_one is = rw (stands is) refl
