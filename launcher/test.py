@@ -16,7 +16,7 @@ import time
 from toolchain import TOP, Trial, below, crate_lines, end_by_signals, sources_of
 
 # Scripts that are given the program, and those that need none.
-OVER_PROGRAM = ["cases/check", "cases/check-served", "examples/check", "examples/check-serve", "examples/check-launcher"]
+OVER_PROGRAM = ["cases/check", "cases/check-served", "cases/check-rehearsals", "examples/check", "examples/check-serve", "examples/check-launcher"]
 ALONE = ["docs/check-theorems", "docs/check-pages", "bench/measure"]
 # Crates whose tests take longer than their build.
 LONG = ["ground_tests"]
