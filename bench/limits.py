@@ -4,7 +4,7 @@
     bench/limits.py [PROGRAM]
 
 100,000 requests to one service, the next of which is refused; a body of 65,536 bytes, and one more; a journal's weight; sixteen services,
-and one more. Its status is 1 where one is elsewhere. It takes some seconds, and needs the program built.
+and one more; 10,000 programs, and one more. Its status is 1 where one is elsewhere. It takes some seconds, and needs the program built.
 """
 import json
 import os
@@ -73,9 +73,17 @@ def services(program):
     return told == (0, ["s15/1 = 200", "legal"]) and ran(program, world_of(17), "") == (3, ["world refused 5"])
 
 
+def programs(program):
+    deploys = "".join(f"deploy s0 t{number} ann\n" for number in range(2, 10_001))
+    more = "deploy s0 t ann\ncorrect s0 1 t ann\nrehearse s0 1 ann\ncorrect s0 10001 t ann\nrules s0 t ann allow any any any /\ndeploy s0 t10000 ann\n"
+    told = ran(program, world_of(1), deploys + more)
+    wanted = ["s0 refused full 10000"] * 3 + ["s0 refused nosuchprogram 10001", "s0 ordered t rules rule 1", "s0 ordered t10000 program:10000 rule 1"]
+    return told[0] == 0 and told[1][-7:] == ["s0 ordered t10000 program:10000 rule 1", *wanted]
+
+
 def main(program):
     missed = 0
-    for limit in (entries, entries_that_orders_make, bodies, weights, services):
+    for limit in (entries, entries_that_orders_make, bodies, weights, services, programs):
         is_there = limit(program)
         missed += not is_there
         print(f"{limit.__name__.replace('_', ' ')}: {'as documented' if is_there else 'ELSEWHERE'}", flush=True)
