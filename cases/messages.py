@@ -17,7 +17,7 @@ KINDS = {
 PHRASES = {200: "OK", 202: "Accepted", 400: "Bad Request", 403: "Forbidden", 404: "Not Found", 409: "Conflict", 410: "Gone", 413: "Payload Too Large"}
 PHRASES.update({299: "", 501: "Not Implemented", 504: "Gateway Timeout", 507: "Insufficient Storage", 508: "Loop Detected"})
 # Words of refusals behind which a number stands.
-NUMBERED = ("full", "notyet", "gone", "denied", "unknown", "nosuchrequest", "notoutside", "tooold", "notquiet", "untimely")
+NUMBERED = ("full", "notyet", "gone", "denied", "unknown", "nosuchrequest", "notoutside", "nosuchprogram", "program", "rules", "tooold", "notquiet", "untimely")
 
 
 class Malformed(Exception):
