@@ -36,18 +36,67 @@ use Rattle.flights.specs.contracts.flights.Flights as flights
 use Rattle.flights.specs.contracts.flights.Flights.TheInside as flights_inside
 
 entry_send : IsSend entry.the_row
-entry_send = recorded_send entry.the_field.row _ _ entry.the_type.to_one (struct_send (shape entry.the_type)
-    (search sendable, (origin.the_field_send, (search sendable, (shared.the_send _ request.the_send request.the_sync, (search sendable, (search sendable, (shared.the_send _ inputs.the_send inputs.the_sync,
-    (under_send, (search (sendable, crosses, made.the_send) depth 10, (search (sendable, thin.the_send) depth 10, (search sendable, (search sendable, tt)))))))))))))
+entry_send = recorded_send entry.the_field.row _ _ entry.the_type.to_one (struct_send (shape entry.the_type) (
+  search sendable,
+  (
+    origin.the_field_send,
+    (
+      search sendable,
+      (
+        shared.the_send _ request.the_send request.the_sync,
+        (
+          search sendable,
+          (
+            search sendable,
+            (
+              shared.the_send _ inputs.the_send inputs.the_sync,
+              (under_send, (search (sendable, crosses, made.the_send) depth 10, (search (sendable, thin.the_send) depth 10, (search sendable, (search sendable, tt))))),
+            ),
+          ),
+        ),
+      ),
+    ),
+  ),
+))
 
 kept_entry_send : IsSend kept_entry.the_row
 kept_entry_send = view_send _ _ _ _ _ (recorded_send entry_inside.the_field.row _ _ entry_inside.the_type.to_one (struct_send (shape entry_inside.the_type) (search (crosses, entry_send) depth 10, tt)))
 
 folded_send : IsSend folded.the_row
-folded_send = recorded_send folded.the_field.row _ _ folded.the_type.to_one (struct_send (shape folded.the_type)
-    (search sendable, (origin.the_field_send, (search sendable, (shared.the_send _ request.the_send request.the_sync, (search sendable, (search sendable, (shared.the_send _ inputs.the_send inputs.the_sync,
-    (shared.the_send _ numbered_send numbered_sync, (thin.the_send _ call.the_send call.the_sync, (thin.the_send _ response.the_send response.the_sync, (search (sendable, thin.the_send) depth 10,
-    (response.the_field_send, (search sendable, (search sendable, tt)))))))))))))))
+folded_send = recorded_send folded.the_field.row _ _ folded.the_type.to_one (struct_send (shape folded.the_type) (
+  search sendable,
+  (
+    origin.the_field_send,
+    (
+      search sendable,
+      (
+        shared.the_send _ request.the_send request.the_sync,
+        (
+          search sendable,
+          (
+            search sendable,
+            (
+              shared.the_send _ inputs.the_send inputs.the_sync,
+              (
+                shared.the_send _ numbered_send numbered_sync,
+                (
+                  thin.the_send _ call.the_send call.the_sync,
+                  (
+                    thin.the_send _ response.the_send response.the_sync,
+                    (
+                      search (sendable, thin.the_send) depth 10,
+                      (response.the_field_send, (search sendable, (search sendable, tt))),
+                    ),
+                  ),
+                ),
+              ),
+            ),
+          ),
+        ),
+      ),
+    ),
+  ),
+))
 
 kept_folded_send : IsSend kept_folded.the_row
 kept_folded_send = view_send _ _ _ _ _ (recorded_send folded_inside.the_field.row _ _ folded_inside.the_type.to_one (struct_send (shape folded_inside.the_type) (search (crosses, folded_send) depth 10, tt)))
@@ -65,9 +114,19 @@ repairer_send = view_send _ _ _ _ _ (recorded_send repairer_inside.the_field.row
     (heap.the_field_send, (log_send, (rows.the_send, (marks.the_send, (search sendable, tt)))))))
 
 flight_send : IsSend flight.the_row
-flight_send = recorded_send flight.the_field.row _ _ flight.the_type.to_one (struct_send (shape flight.the_type)
-    (search sendable, (origin.the_field_send, (shared.the_send _ request.the_send request.the_sync, (shared.the_send _ inputs.the_send inputs.the_sync,
-    (shared.the_send _ deployed_send deployed_sync, (seq.the_send _ call.the_send, (search (sendable, seq.the_send) depth 10, (search sendable, tt)))))))))
+flight_send = recorded_send flight.the_field.row _ _ flight.the_type.to_one (struct_send (shape flight.the_type) (
+  search sendable,
+  (
+    origin.the_field_send,
+    (
+      shared.the_send _ request.the_send request.the_sync,
+      (
+        shared.the_send _ inputs.the_send inputs.the_sync,
+        (shared.the_send _ deployed_send deployed_sync, (seq.the_send _ call.the_send, (search (sendable, seq.the_send) depth 10, (search sendable, tt)))),
+      ),
+    ),
+  ),
+))
 
 pub flights_send : IsSend flights.the_row
 flights_send = view_send _ _ _ _ _ (recorded_send flights_inside.the_field.row _ _ flights_inside.the_type.to_one (struct_send (shape flights_inside.the_type) (search (sorted.the_send, flight_send) depth 10, tt)))
