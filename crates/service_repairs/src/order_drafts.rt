@@ -121,9 +121,9 @@ fn asked(alloc: Global, id: u64, created: Created<'_>, inputs: Inputs) -> Result
     ensures { IfOk result (λ row. row ≡ Row.Asked (record {
       id = id;
       origin = Origin.Outside;
-      request = created.request.now;
+      request = (creation_of created.entry).request;
       inputs = inputs;
-      program = created.program;
+      program = (creation_of created.entry).program;
     })) }
 {
     let request = Shared::copy_of(alloc, created.request);
