@@ -3,8 +3,6 @@ use Rattle.std.specs.Prelude.{ℕ, ◌≡◌, ◌+◌, ◌-◌, ◌<◌, ◌≤�
 use Rattle.std.proofs.Common.{subst, lt-suc_self}
 use Rattle.std.proofs.Math.Nat.{add-le-add, add-sub_of_le, le_refl, lt_of_le_of_lt, lt_trans, min-le_left}
 use Rattle.std.proofs.lemmas.Nat.{pow_below}
-use Rattle.std.specs.Coded.{Coded, coded_ℕ, coded_list, coded×, le_prop}
-use Rattle.journal_rows.specs.contracts.row.Row as row
 use Rattle.journal_rows.specs.declared.row.Row.{Row}
 
 -- its rows, and at least how many more go in without memory: all of these can be counted in 64 bits
@@ -12,25 +10,6 @@ pub record Journal : Type 0 where
   pub rows : List Row
   pub spare : ℕ
   pub few : length rows + spare < 2 ^ 64
-
--- ---- by which a proof tells two of them apart
-
-abbrev journal_parts : Coded (List Row × ℕ)
-journal_parts = coded× (coded_list row.the_row.coded) coded_ℕ
-
-same_journal : (x y : Journal) → (x.rows, x.spare) ≡ (y.rows, y.spare) → x ≡ y
-same_journal x y e =
-    let Q : List Row × ℕ → Type 0 = λ p. (few : length p.0 + p.1 < 2 ^ 64) → x ≡ record { rows = p.0; spare = p.1; few = few } in
-    let start : Q (x.rows, x.spare) = λ few. (λ i. record { rows = x.rows; spare = x.spare; few = le_prop x.few few i }) in
-    subst Q e start y.few
-
-abbrev pub journal_code : Coded Journal
-journal_code = record {
-  code = λ j. journal_parts.code (j.rows, j.spare);
-  inj = λ x y e. same_journal x y (journal_parts.inj (x.rows, x.spare) (y.rows, y.spare) e);
-}
-
--- ---- what a journal's rows in memory are
 
 -- so many things, and as many more as fit beside them, where what fits in memory is so much
 pub can_count : (n len cap more : ℕ) → len ≡ n → len ≤ cap → cap < 2 ^ 63 → n + min (cap - len) more < 2 ^ 64

@@ -45,14 +45,16 @@ impl Drop for Rows {
 
 impl Model for Rows {
     ghost use Rattle.std.specs.Prelude.{◌≡◌};
-    ghost use Rattle.journal_rows.specs.Journals.{Journal, journal_code, journal_of};
+    ghost use Rattle.journal_rows.specs.Journals.{Journal, journal_of};
     ghost use Rattle.journal_rows.specs.Keys.{AreKeys};
     ghost use Rattle.journal_rows.specs.Programs.{program_count};
     ghost use Rattle.journal_rows.specs.Weights.{journal_weight};
+    ghost use Rattle.std.specs.Coded.{codes};
+    ghost use Rattle.journal_rows.specs.contracts.row.Row as row;
 
     ghost Value = { Journal };
 
-    ghost coded = { journal_code };
+    ghost coded = { Prim.hlevel (codes, row.the_row.coded) };
 
     ghost view = { λ j. journal_of j.rows j.index.spare };
 

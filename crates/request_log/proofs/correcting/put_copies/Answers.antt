@@ -9,8 +9,8 @@ index_mut-requires c =
     let n = ap length c.loop-place.invariant.given ∙ length_given (take c.loop-place.place c.args.copies.now.items) c.args.items.now.items in
     omega arith
 
-pub index_mut-requires-2 : goal.index_mut-requires-2
-index_mut-requires-2 c =
+pub index_mut-requires-in-loop-place : goal.index_mut-requires-in-loop-place
+index_mut-requires-in-loop-place c =
     let n = c.loop-place.invariant.many in
     let same = c.requires in
     omega arith
@@ -22,14 +22,14 @@ loop-place-preserved c =
     let place = c.loop-place.place in
     let xs = c.loop-place.items.items in
     let ys = c.loop-place.copies.items in
-    let g = c.index_mut-2.result.now in
+    let g = c.index_mut-in-loop-place.result.now in
     let e = c.index_mut.result.now in
     let many = c.loop-place.invariant.many in
     let same = c.requires in
     let lt : place < length gs = omega arith in
     record {
       given = ap (λ x. set xs place x) c.put_copy.ensures
-          ∙ given_more gs es xs place g e lt (omega arith) (c.index_mut-2.ensures.value ∙ c.loop-place.invariant.rest place g (omega arith)) c.loop-place.invariant.given c.index_mut.ensures.value;
+          ∙ given_more gs es xs place g e lt (omega arith) (c.index_mut-in-loop-place.ensures.value ∙ c.loop-place.invariant.rest place g (omega arith)) c.loop-place.invariant.given c.index_mut.ensures.value;
       many = length-set ys place c.put_copy.new.copy ∙ many;
       rest = λ q d le. let other : q ≢ place = (λ is. omega arith) in get_or-set_other ys place q c.put_copy.new.copy d other ∙ c.loop-place.invariant.rest q d (omega arith);
     }

@@ -10,8 +10,8 @@ put_copies-requires c =
     let is = c.in_ok-copies.ensures ∙ ap (map (given_for c.args.number c.args.program.now)) c.deref.ensures.value in
     ap length is ∙ length-map c.self.inside.items.items (given_for c.args.number c.args.program.now)
 
-pub invariant_of-self-2 : goal.invariant_of-self-2
-invariant_of-self-2 c =
+pub invariant_of-self : goal.invariant_of-self
+invariant_of-self c =
     let es = c.self.inside.items.items in
     let is = c.in_ok-copies.ensures ∙ ap (map (given_for c.args.number c.args.program.now)) c.deref.ensures.value in
     log_corrected c.args.number c.args.program.now c.self.inside.folded es c.put_copies.new.items.items c.self.inside.numbers.keys c.self.inside.origins.keys
