@@ -5,8 +5,8 @@ use Rattle.flights.specs.declared.flight.Flight.{Flight}
 use Rattle.flights.proofs.CorrectionLemmas.{rising_corrected}
 use Rattle.flights.proofs.flights.Flights.corrected.Goals as goal
 
-pub all_corrected-list-requires : goal.all_corrected-list-requires
-all_corrected-list-requires c =
+pub all_corrected-requires : goal.all_corrected-requires
+all_corrected-requires c =
     let P : List Flight → Type 0 = λ l. IsRising l in
     subst P (sym c.as_slice.ensures) c.self.invariant
 
