@@ -11,7 +11,7 @@ mod values;
 mod variables;
 
 pub use given::{Binding, Fault, Given};
-pub use paths::{route_at, route_of, segments_of};
+pub use paths::{route_at, route_of, segments_of, takes};
 pub use recorded::{MOST_READ_BYTES, Recorded};
 pub use values::{Evaluated, pair_up, text_or_nothing, value_of};
 pub use variables::Variables;

@@ -76,16 +76,16 @@ fn route_matches(method: Method, segments: &[&str], route: &Route) -> bool
 fn path_matches(pattern: &str, path: &str) -> bool
     ensures { result ≡ segments_match (slice_split (λ b. b == 47) pattern.now) (slice_split (λ b. b == 47) path.now) }
 {
-    let mut parts = pattern.split('/');
+    let mut pieces = pattern.split('/');
     for segment in path.split('/') {
-        let Some(part) = parts.next() else {
+        let Some(part) = pieces.next() else {
             return false;
         };
         if !segment_matches(part, segment) {
             return false;
         }
     }
-    parts.next().is_none()
+    pieces.next().is_none()
 }
 
 /// The first route that takes the method and the segments; None exactly where none does.
@@ -100,16 +100,24 @@ pub fn route_of<'a>(routes: &'a [Route], method: Method, segments: &[&str]) -> O
     None
 }
 
+/// Whether a route takes the method and the path. It takes no memory.
+pub fn takes(route: &Route, method: Method, path: &Text) -> bool
+    ensures { result ≡ route_matches method (segments_of path.now) route.now }
+{
+    same_method(route.method, method)
+        && path_matches(
+            past_slash(route.pattern.as_str()),
+            past_slash(path.as_str()),
+        )
+}
+
 /// The first route that takes the method and the path; None exactly where none does. It takes no memory: who has the segments
 /// asks `route_of`.
 pub fn route_at<'a>(routes: &'a [Route], method: Method, path: &Text) -> Option<&'a Route>
     ensures { option_copied result ≡ route_of routes.now method (segments_of path.now) }
 {
-    let path = past_slash(path.as_str());
     for route in routes {
-        if same_method(route.method, method)
-            && path_matches(past_slash(route.pattern.as_str()), path)
-        {
+        if takes(route, method, path) {
             return Some(route);
         }
     }

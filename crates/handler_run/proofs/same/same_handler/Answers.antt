@@ -4,8 +4,8 @@ use Rattle.handler_run.proofs.same.same_handler.Goals as goal
 
 pub returns-clause-same : goal.returns-clause-same
 returns-clause-same c = (
-  λ told. sym c.handler_of.ensures ∙ c.alike.ensures.0 told ∙ c.handler_of-2.ensures,
-  λ same. c.alike.ensures.1 (c.handler_of.ensures ∙ same ∙ sym c.handler_of-2.ensures),
+  λ told. sym c.handlers_of.ensures.0 ∙ c.alike.ensures.0 told ∙ c.handlers_of.ensures.1,
+  λ same. c.alike.ensures.1 (c.handlers_of.ensures.0 ∙ same ∙ sym c.handlers_of.ensures.1),
 )
 
 pub returns-clause-law : goal.returns-clause-law

@@ -8,5 +8,5 @@ use Rattle.lang_values.proofs.paths.path_matches.Given as goal
 
 abbrev pub invariant-loop-segment : goal.invariant-loop-segment
 invariant-loop-segment l =
-    PartsLeft (split_steps FindsChar (λ a b. b ≡ a)) l.parts (map (λ x. x) (drop (length l.yielded) (slice_split (λ b. b == 47) l.path)))
+    PartsLeft (split_steps FindsChar (λ a b. b ≡ a)) l.pieces (map (λ x. x) (drop (length l.yielded) (slice_split (λ b. b == 47) l.path)))
     (segments_match (slice_split (λ b. b == 47) l.pattern) (slice_split (λ b. b == 47) l.path))
