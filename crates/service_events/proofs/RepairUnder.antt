@@ -51,7 +51,7 @@ use Rattle.service_events.specs.declared.refusals.OrderRefused.{OrderRefused}
 use Rattle.service_events.proofs.AskedLemmas.{hear_either, take_either}
 use Rattle.service_events.proofs.CallerLaws.{each_append}
 use Rattle.service_events.proofs.CorrectLaw.{corrected_stays, corrected_unfolded}
-use Rattle.service_events.proofs.FoldLaw.{AreQuiet, quiet_are, then_folded, then_unfolded}
+use Rattle.service_events.proofs.FoldLaw.{AreQuietEntries, quiet_are, then_folded, then_unfolded}
 use Rattle.service_events.proofs.FreshLemmas.{unmade}
 use Rattle.service_events.proofs.HorizonLemmas.{all_inserted, behind_horizon, changed_stays, changed_unfolded, found_past, insert_stays, number_past, with_stays, with_unfolded}
 use Rattle.service_events.proofs.LiveUnder.{LeavesUnder, callers_ask, new_under}
@@ -259,7 +259,7 @@ module _ (s : Kept) (f : Fits s) where
       ran = refl;
     }
 
-    all_were : (es : List Entry) (rows : List Cell) → AreQuiet s rows es → All (IsUnder s.setting.program s.journal) es
+    all_were : (es : List Entry) (rows : List Cell) → AreQuietEntries s rows es → All (IsUnder s.setting.program s.journal) es
         → All (WasUnder s.setting.program (s.journal ++ Ordered o ∷ [])) (map bare es)
     all_were [] rows quiet all = All-nil (WasUnder s.setting.program (s.journal ++ Ordered o ∷ []))
     all_were (x ∷ xs) rows quiet all =
