@@ -11,7 +11,7 @@ use flights::Flight;
 use lang_core::{Copied, NoMemory, Seq, Shared};
 use lang_lists::{Numbered, Sorted};
 use lang_programs::{Deployed, NumberedText};
-use request_log::{Entry, KeptEntry};
+use request_log::KeptEntry;
 use service_parts::Parts;
 use std::alloc::Global;
 use std::marker::Model;
@@ -117,33 +117,33 @@ fn programs_held(alloc: Global, parts: &Parts) -> Result<Sorted<Held>, NoMemory>
 
 // ---- how many have one
 
-fn has_program(entry: &Entry, number: u64) -> bool
-    ensures { result ≡ has_program number entry.now }
+fn has_program(kept: &KeptEntry, held: &Held) -> bool
+    ensures { result ≡ has_program held.now.number kept.now }
 {
-    entry.under.now().get().number() == number
+    kept.entry().under.now().get().number() == held.number()
 }
 
-fn is_under(flight: &Flight, number: u64) -> bool
-    ensures { result ≡ is_under number flight.now }
+fn is_under(flight: &Flight, held: &Held) -> bool
+    ensures { result ≡ is_under held.now.number flight.now }
 {
-    flight.program.get().number() == number
+    flight.program.get().number() == held.number()
 }
 
-fn count_entries(entries: &[KeptEntry], number: u64) -> u64
-    ensures { result ≡ length (filter (has_program number) entries.now) }
+fn count_entries(entries: &[KeptEntry], held: &Held) -> u64
+    ensures { result ≡ length (filter (has_program held.now.number) entries.now) }
 {
     entries
         .iter()
-        .filter(|kept| has_program(kept.entry(), number))
+        .filter(|kept| has_program(kept, held))
         .count() as u64
 }
 
-fn count_flights(flights: &[Flight], number: u64) -> u64
-    ensures { result ≡ length (filter (is_under number) flights.now) }
+fn count_flights(flights: &[Flight], held: &Held) -> u64
+    ensures { result ≡ length (filter (is_under held.now.number) flights.now) }
 {
     flights
         .iter()
-        .filter(|flight| is_under(flight, number))
+        .filter(|flight| is_under(flight, held))
         .count() as u64
 }
 
@@ -151,11 +151,10 @@ fn count_flights(flights: &[Flight], number: u64) -> u64
 fn use_of(alloc: Global, parts: &Parts, held: &Held) -> Result<ProgramInUse, NoMemory>
     ensures { IfOk result (λ used. used ≡ use_of (kept parts.now) held.now) }
 {
-    let number = held.number();
     Ok(ProgramInUse {
         program: held.program.copied(alloc)?,
-        entries: count_entries(parts.repairer.log().as_slice(), number),
-        flights: count_flights(parts.flights.as_slice(), number),
+        entries: count_entries(parts.repairer.log().as_slice(), held),
+        flights: count_flights(parts.flights.as_slice(), held),
     })
 }
 
