@@ -161,7 +161,8 @@ pub fn offline<X: Connection + Drop, F: Files, S: Source, K: Sink>(
     // It is never Forged: what each service says of another is what that one says of itself.
     ensures joined { IfSome result.verdict (λ v. ¬ (SaysForged v)) }
 
-    // Where there is a verdict, Legal or not, each repair that a service applied was allowed by its rules, as things and these rules stood before it.
+    // Where there is a verdict, Legal or not, each repair that a service applied was allowed by its rules, as things and these rules
+    // stood before it.
     ensures allowed { IfSome result.verdict (λ v. All IsAllowed result.services.items) }
 
     // So it was of all services, and each fits its journal, which a service's type keeps.
@@ -273,7 +274,8 @@ pub fn aire<
     ensures joined { ¬ (command_of (map string_bytes words.now) ≡ Serve) → IfSome result.verdict (λ v. ¬ (SaysForged v)) }
     ensures allowed { IfSome result.verdict (λ v. All IsAllowed result.services.items) }
 
-    // Whatever the status, each service fits its journal, and its rules allowed each repair in that, as things and these rules stood before it.
+    // Whatever the status, each service fits its journal, and its rules allowed each repair in that, as things and these rules stood
+    // before it.
     ensures kept { All Fits result.services.items × All IsAllowed result.services.items }
 
     // Where an operator stopped services, each receipt is that of an answer in a journal, with its request and the bytes of its
