@@ -3,7 +3,7 @@ use Rattle.lang_core.specs.declared.cells.Cell.{Cell}
 use Rattle.lang_core.specs.declared.setting.Setting.{Setting}
 use Rattle.request_log.specs.Folded.{as_entry}
 use Rattle.request_log.specs.declared.entry.Entry.{Entry}
-use Rattle.local_repair.specs.Current.{AllCurrent, AreChecked}
+use Rattle.local_repair.specs.Current.{AllCurrent, AllRuns, AreChecked}
 use Rattle.local_repair.specs.Repairs.{KeptRepairer}
 use Rattle.local_repair.specs.Settling.{HasItsSlots, CanSettle}
 use Rattle.local_repair.specs.Steps.{AreApart}
@@ -34,6 +34,14 @@ step-stepped-requires-clause-own c =
     let Q : List Entry → Type 0 = λ es. All HasItsSlots es in
     subst Q (sym (ap (λ (r : KeptRepairer). r.entries) c.take_book-book.ensures.entries ∙ sym (unfolded_kept c.args.parts.now)))
     (own_behind s f)
+
+pub step-stepped-requires-clause-runs : goal.step-stepped-requires-clause-runs
+step-stepped-requires-clause-runs c =
+    let s = kept c.args.parts.now in
+    let T : Setting → Type 0 = λ t. AllRuns t (unfolded s) in
+    let Q : List Entry → Type 0 = λ es. AllRuns c.take_book-book.new.parts.setting es in
+    subst Q (sym (ap (λ (r : KeptRepairer). r.entries) c.take_book-book.ensures.entries ∙ sym (unfolded_kept c.args.parts.now)))
+    (subst T (sym c.take_book-book.ensures.setting) c.requires.fits.runs)
 
 pub step-stepped-requires-clause-can : goal.step-stepped-requires-clause-can
 step-stepped-requires-clause-can c =
