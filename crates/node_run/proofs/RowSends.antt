@@ -61,7 +61,7 @@ use Rattle.node_core.specs.contracts.pass.Pass as pass
 -- ---- orders and rows
 
 command_send : IsSend command.the_field.row
-command_send = search (sendable, crosses, text.the_send, method.the_field_send, request.the_field_send, post_name.the_field_send, shared.the_send _ text_send text_sync, shared.the_send _ given.the_send given.the_sync) depth 10
+command_send = search (sendable, crosses, text.the_send, method.the_field_send, request.the_field_send, post_name.the_field_send, shared.the_send _ text_send text_sync, shared.the_send _ given.the_send given.the_sync) depth 40
 
 ordered_field_send : IsSend ordered.the_field.row
 ordered_field_send = struct_send (shape ordered.the_type)
@@ -71,7 +71,7 @@ ordered_send : IsSend ordered.the_row
 ordered_send = recorded_send ordered.the_field.row _ _ ordered.the_type.to_one ordered_field_send
 
 row_field_send : IsSend row.the_field.row
-row_field_send = search (sendable, asked.the_field_send, took.the_field_send, acked.the_field_send, answered.the_field_send, was_confirmed.the_field_send, sent.the_field_send, saw_ack.the_field_send, noted.the_field_send, saw_answer.the_field_send, confirmed.the_field_send, boxed.the_send, ordered_send) depth 10
+row_field_send = search (sendable, asked.the_field_send, took.the_field_send, acked.the_field_send, answered.the_field_send, was_confirmed.the_field_send, sent.the_field_send, saw_ack.the_field_send, noted.the_field_send, saw_answer.the_field_send, confirmed.the_field_send, boxed.the_send, ordered_send) depth 40
 
 row_send : IsSend row.the_row
 row_send = recorded_send row.the_field.row _ _ row.the_type.to_one row_field_send
@@ -83,7 +83,7 @@ rows_send = view_send _ _ _ _ _ (recorded_send rows_inside.the_field.row _ _ row
 -- ---- notes of a pass
 
 event_send : IsSend event.the_field.row
-event_send = search (sendable, origin.the_field_send, request.the_field_send, inputs.the_field_send, answer.the_field_send, why.the_field_send, set.the_field_send, token.the_field_send, fetch.the_field_send, name.the_send, post_name.the_field_send, post.the_field_send, post_reply.the_field_send, command_send, text.the_send) depth 10
+event_send = search (sendable, origin.the_field_send, request.the_field_send, inputs.the_field_send, answer.the_field_send, why.the_field_send, set.the_field_send, token.the_field_send, fetch.the_field_send, name.the_send, post_name.the_field_send, post.the_field_send, post_reply.the_field_send, command_send, text.the_send) depth 40
 
 gave_send : IsSend gave.the_row
 gave_send = recorded_send gave.the_field.row _ _ gave.the_type.to_one (struct_send (shape gave.the_type) (event_send, (done.the_field_send, tt)))
