@@ -10,6 +10,7 @@ use Rattle.lang_core.specs.contracts.request.Request as request
 use Rattle.lang_core.specs.contracts.request.Response as response
 use Rattle.lang_core.specs.contracts.trace.CallMade as call_made
 use Rattle.lang_core.specs.declared.cells.Cell.{Cell}
+use Rattle.lang_core.specs.declared.request.Request.{Request}
 use Rattle.lang_core.specs.declared.request.Response.{Response}
 use Rattle.lang_core.specs.declared.trace.CallMade.{CallMade}
 use Rattle.lang_core.specs.declared.trace.Trace.{Trace}
