@@ -1,3 +1,4 @@
+pub mod DumpSends
 pub mod Firsts
 pub mod FoundLemmas
 pub mod GroupLemmas
