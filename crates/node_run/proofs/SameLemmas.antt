@@ -1,4 +1,4 @@
--- Programs and rules that are printed alike.
+-- Programs that are printed alike, and services that are set up as they should be.
 use Rattle.std.proofs.Common.{◌≡◌, ◌↔◌, ℕ, zero, suc, ◌+◌, ◌≤◌, Bool, true, IsTrue, List, [], ◌∷◌, Some, Result, Ok, Err, IfOk, length, map, slice_get, take, sym, ap, ◌∙◌, subst, arith}
 use Rattle.std.specs.List.{list_all}
 use Rattle.lang_base.specs.declared.memory.NoMemory.{NoMemory}

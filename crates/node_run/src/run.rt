@@ -201,7 +201,7 @@ fn run_with<
 ///
 /// Where it ends well, each live request that a journal answers since the run began has exactly one receipt, with its request
 /// and the reply's bytes, and each order that it got since then has exactly one note of the worker that read it; each service has
-/// its setup's setting and rules, fits its journal, and is the replay of its
+/// its setup's setting, began with its rules, fits its journal, and is the replay of its
 /// surviving requests, if it is timely; a Legal verdict says that all services are one legal execution; and `last` is the
 /// connection on which `stop` was read. `DoorFault` comes only where the door's count of faults rose, `NotStarted` only
 /// where the spawner's did; a receipt that `Differs` doesn't agree with the services that are handed back, or is of an answer of

@@ -58,8 +58,8 @@ fn is_set_so(alloc: Global, service: &Service, setup: &Setup) -> Result<bool, No
     Ok(service.began().is(&setup.rules))
 }
 
-/// Whether the services are those of the setups, in order: whether each has the setting of its own, and began with the rules of its own. A program
-/// with more than 65,536 tokens, which no text of a program spells, is taken for another.
+/// Whether the services are those of the setups, in order: whether each has the setting of its own, and began with the rules
+/// of its own. A program with more than 65,536 tokens, which no text of a program spells, is taken for another.
 #[tactic(auto, using(crate::proofs::SameLemmas::sets_more))]
 pub fn are_set_so(alloc: Global, services: &[Service], setups: &[Setup]) -> Result<bool, NoMemory>
     ensures { IfOk result (λ same. IsTrue same → AreSetSo setups.now services.now) }
