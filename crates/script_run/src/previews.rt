@@ -49,7 +49,6 @@ fn preview_text(
 }
 
 // What is printed of this order, if it is only tried.
-#[tactic(auto, using(crate::proofs::PreviewLemmas::shown_prints))]
 fn trial_lines(alloc: Global, service: &Service, trial: Trial, who: &Text) -> Result<Text, NoMemory>
     ensures { IfOk result (PrintsPreview trial who.now service.now) }
 {
