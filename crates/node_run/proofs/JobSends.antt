@@ -2,9 +2,9 @@
 use Prim.{tt}
 use denote.RattleType.{RattleType}
 use denote.Ref.{NamedLft}
-use denote.Param.Send.{IsSend, IsSync, sendable, struct_send, struct_sync, recorded_send, recorded_sync, shr_send, shr_sync}
+use denote.Param.Send.{IsSend, IsSync, sendable, struct_send, struct_sync, recorded_send, recorded_sync, shr_send, shr_sync, shr_slice_sync}
 use denote.Struct.Declared.{shape}
-use Rattle.std.proofs.Crossing.{crosses}
+use Rattle.std.proofs.Crossing.{Vec-sync, crosses}
 use Rattle.std.proofs.alloc.Global.TheSendSync as heap
 use Rattle.std.proofs.sync.Condvar.TheSendSync as condvar
 use Rattle.std.proofs.sync.ledger.Share.TheSendSync as share
@@ -44,11 +44,11 @@ pub posts_send : (κ : NamedLft) (R Q W L : RattleType) (g : Ghosts R.Denot) (g'
 posts_send κ R Q W L g g' w l = recorded_send (posts.the_field κ R Q W L g g').row _ _ (posts.the_type κ R Q W L g g').to_one (struct_send (shape (posts.the_type κ R Q W L g g')) (shr_send _ _ _ w, (heap.the_field_send, (shr_send _ _ _ (desk_sync κ R Q g g'), (l, (pass_send Q g', tt))))))
 
 nodes_sync : (R Q : RattleType) (g : Ghosts R.Denot) (g' : Ghosts Q.Denot) → IsSync (nodes.the_row R Q g g')
-nodes_sync R Q g g' = recorded_sync (nodes.the_field R Q g g').row _ _ (nodes.the_type R Q g g').to_one (struct_sync (shape (nodes.the_type R Q g g')) (search (crosses, node_sync) depth 10, (tally.the_field_sync R Q g g', (search (sendable, crosses) depth 10, tt))))
+nodes_sync R Q g g' = recorded_sync (nodes.the_field R Q g g').row _ _ (nodes.the_type R Q g g').to_one (struct_sync (shape (nodes.the_type R Q g g')) (Vec-sync _ (node_sync R g), (tally.the_field_sync R Q g g', (search (sendable, crosses) depth 10, tt))))
 
 shared_sync : (κ : NamedLft) (R Q C D G : RattleType) (s : Source.Ghosts C.Denot) (k : Sink.Ghosts C.Denot) (g : Ghosts R.Denot) (g' : Ghosts Q.Denot) → IsSend C → IsSync D → IsSync G → IsSync (shared.the_row κ R Q C D G s k g g')
 shared_sync κ R Q C D G s k g g' c d e = recorded_sync (shared.the_field κ R Q C D G s k g g').row _ _ (shared.the_type κ R Q C D G s k g g').to_one (struct_sync (shape (shared.the_type κ R Q C D G s k g g'))
-    (search (sendable, setup_sync) depth 5, (shr_sync _ _ _ (nodes_sync R Q g g'), (search (crosses, desk_sync) depth 10, (shr_sync _ _ _ d, (shr_sync _ _ _ e, (last.the_field_sync C s k c, tt)))))))
+    (shr_slice_sync _ _ _ setup_sync, (shr_sync _ _ _ (nodes_sync R Q g g'), (Vec-sync _ (desk_sync κ R Q g g'), (shr_sync _ _ _ d, (shr_sync _ _ _ e, (last.the_field_sync C s k c, tt)))))))
 
 pub requests_send : (κ : NamedLft) (R Q W E L D G C : RattleType) (s : Source.Ghosts C.Denot) (k : Sink.Ghosts C.Denot) (g : Ghosts R.Denot) (g' : Ghosts Q.Denot) → IsSync W → IsSync E → IsSend L → IsSync D → IsSync G → IsSend C → IsSend (requests.the_row κ R Q W E L D G C s k g g')
 requests_send κ R Q W E L D G C s k g g' w e l d o c = recorded_send (requests.the_field κ R Q W E L D G C s k g g').row _ _ (requests.the_type κ R Q W E L D G C s k g g').to_one (struct_send (shape (requests.the_type κ R Q W E L D G C s k g g'))
