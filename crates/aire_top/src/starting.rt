@@ -11,14 +11,20 @@ use script_run::{Service, World};
 use std::alloc::Global;
 use world_file::Setup;
 
+fn fresh_service(alloc: Global, setup: &Setup) -> Result<Service, NoMemory>
+    ensures { IfOk result (λ service. service ≡ fresh_service setup.now) }
+{
+    let (setting, rules) = both(setup.setting.copied(alloc), setup.rules.copied(alloc))?;
+    Service::new(alloc, setting, rules)
+}
+
 /// New services that are set up so.
 pub(crate) fn services_of(alloc: Global, setups: &[Setup]) -> Result<Vec<Service>, NoMemory>
     ensures { IfOk result (λ services. services.items ≡ map fresh_service setups.now) }
 {
     let mut services = Vec::new(alloc);
     for setup in setups {
-        let (setting, rules) = both(setup.setting.copied(alloc), setup.rules.copied(alloc))?;
-        services.push(Service::new(alloc, setting, rules)?)?;
+        services.push(fresh_service(alloc, setup)?)?;
     }
     Ok(services)
 }
