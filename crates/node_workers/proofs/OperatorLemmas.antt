@@ -3,6 +3,7 @@ use Rattle.std.proofs.Common.{◌≡◌, ◌⊎◌, ℕ, List, Option, Some, Non
 use Rattle.lang_base.specs.declared.memory.NoMemory.{NoMemory as LacksMemory}
 use Rattle.lang_core.specs.declared.inputs.Inputs.{Inputs}
 use Rattle.journal_rows.specs.declared.orders.Command.{Command}
+use Rattle.order_texts.specs.declared.refused.TextFault.TheVariants.{Program}
 use Rattle.service_events.specs.State.{Kept, me}
 use Rattle.service_events.specs.declared.answers.Ordered.{Ordered}
 use Rattle.service_events.specs.declared.event.Done.{Done as NodeDone}
@@ -16,8 +17,8 @@ use Rattle.io_edge.specs.Edge.{Writes}
 use Rattle.admin_console.specs.Answers.{IsDone, IsLeft}
 use Rattle.admin_console.specs.Asking.{asked_in}
 use Rattle.admin_console.specs.HandedOn.{Trial}
-use Rattle.admin_console.specs.Previews.{TellsShown}
-use Rattle.admin_console.specs.Replies.{order_reply}
+use Rattle.admin_console.specs.Previews.{TellsShown, Tried, tried_in}
+use Rattle.admin_console.specs.Replies.{bad, fault_reply, order_reply}
 use Rattle.admin_console.specs.declared.asking.Asked.{Asked}
 use Rattle.admin_console.specs.declared.asking.Asked.TheVariants.{IllText, Order, Report}
 use Rattle.node_core.specs.declared.notes.Notes.{Notes}
@@ -30,7 +31,7 @@ use Rattle.node_workers.specs.Desks.{IsServiceOf}
 use Rattle.node_workers.specs.Held.{IsUnmade, OrdersThere, service_at, waits_at}
 use Rattle.node_workers.specs.Operators.{TellsReport}
 use Rattle.node_workers.specs.Posting.{Keeps}
-use Rattle.node_workers.specs.Serving.{IsDoneSo, IsOperatorTold, IsPreviewTold, IsWantTold, ShowsTrial}
+use Rattle.node_workers.specs.Serving.{IsDoneSo, IsOperatorTold, IsPreviewTold, IsTriedTold, IsWantTold, ShowsTrial}
 use Rattle.node_workers.specs.Asking.{MakesAsked}
 use Rattle.node_workers.specs.Turns.{IsUntouched, Made, MakesOnce}
 use Rattle.node_workers.specs.Written.{IsPreviewSo}
@@ -247,6 +248,20 @@ pub shows_trial : (name : List ℕ) (trial : Trial) (who : List ℕ) (s : Kept) 
     → IfOk reply (ShowsTrial name trial who)
 shows_trial name trial who s (Ok response) of told = record { service = s; of = of; told = told }
 shows_trial name trial who s (Err lacks) of told = tt
+
+module _ (name : List ℕ) (request : ConsoleRequest) (reply : Reply) where
+  by_read : (tried : Option Tried) → tried ≡ tried_in request → IfOk reply (IsTriedTold name request.who tried) → IfOk reply (IsPreviewTold name request)
+  by_read tried read told = subst (λ (o : Option Tried). IfOk reply (IsTriedTold name request.who o)) read told
+
+  -- by what was read of the request
+  pub trial_so : (trial : Trial) → Some (Ok trial) ≡ tried_in request → IfOk reply (ShowsTrial name trial request.who) → IfOk reply (IsPreviewTold name request)
+  trial_so trial read told = by_read (Some (Ok trial)) read told
+
+  pub ill_text_so : (at : ℕ) → Some (Err at) ≡ tried_in request → IfOk reply (λ (response : WireResponse). response ≡ fault_reply (Program at)) → IfOk reply (IsPreviewTold name request)
+  ill_text_so at read told = by_read (Some (Err at)) read told
+
+  pub ill_body_so : None ≡ tried_in request → IfOk reply (λ (response : WireResponse). response ≡ bad) → IfOk reply (IsPreviewTold name request)
+  ill_body_so read told = by_read None read told
 
 -- what is told is written, or its write fails, or memory is wanting for that
 pub preview_said : (name : List ℕ) (request : ConsoleRequest) (before now : Writes) (response : WireResponse) (answer : Served) → IsPreviewTold name request response

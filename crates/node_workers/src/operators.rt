@@ -187,6 +187,7 @@ fn service_now<R: Ledger, Q: Ledger, W: Wait>(
     copy_under_lock(alloc, desk, state.service())
 }
 
+#[tactic(auto, using(crate::proofs::OperatorLemmas::shows_trial))]
 fn show_trial<R: Ledger, Q: Ledger, W: Wait>(
     rt: &W,
     alloc: Global,
@@ -201,6 +202,7 @@ fn show_trial<R: Ledger, Q: Ledger, W: Wait>(
 }
 
 // The body is read before the lock is taken, and so is its text.
+#[tactic(auto, using(crate::proofs::OperatorLemmas::trial_so, crate::proofs::OperatorLemmas::ill_text_so, crate::proofs::OperatorLemmas::ill_body_so))]
 fn preview_of<R: Ledger, Q: Ledger, W: Wait>(
     rt: &W,
     alloc: Global,
