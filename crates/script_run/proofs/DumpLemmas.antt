@@ -1,9 +1,11 @@
 -- What is written of calls: of the pairs of two lists, one after the other, and of the tentative answer; of all entries; and of
 -- programs.
-use Rattle.std.proofs.Common.{ℕ, ◌≡◌, fold, ◌⊎◌, ◌+◌, ◌<◌, decimal, drop, get_or, length, inl, inr, List, [], ◌∷◌, ◌++◌, Result, Ok, Err, OnOk, append_assoc, flat_map, take, refl, sym, ap, ◌∙◌}
-use Rattle.std.proofs.lemmas.List.{append-nil, flat_map_more, take-append-drop, take_more}
+use Rattle.std.proofs.Common.{ℕ, ◌≡◌, fold, ◌⊎◌, ◌+◌, ◌<◌, decimal, drop, get_or, length, inl, inr, map, List, [], ◌∷◌, ◌++◌, Result, Ok, Err, OnOk, append_assoc, flat_map, take, refl, sym, ap, ◌∙◌}
+use Rattle.std.proofs.lemmas.List.{append-nil, flat_map_more, map-append, take-append-drop, take_more}
 use Rattle.std.proofs.lemmas.List.Concat.{flat_map-append}
+use Rattle.request_log.specs.Folded.{as_entry}
 use Rattle.request_log.specs.declared.entry.Entry.{Entry}
+use Rattle.request_log.specs.declared.folded.Folded.{Folded}
 use Rattle.std.specs.List.{zip}
 use Rattle.local_repair.specs.Steps.{tentative}
 use Rattle.report_text.specs.Reports.{response_text}
@@ -38,6 +40,16 @@ one_more f before mid now entries i e d inside is first then =
     ∙ ap (λ (x : Entry). (before ++ flat_map f (take i entries)) ++ f x) is
     ∙ flat_map_more f before (take i entries) (get_or entries i d)
     ∙ ap (λ (xs : List Entry). before ++ flat_map f xs) (sym (take_more entries i d inside))
+
+-- the same of folded entries, which are written as entries
+pub one_folded : (f : Entry → List ℕ) (before mid now : List ℕ) (gone : List Folded) (i : ℕ) (e d : Folded) → i < length gone → e ≡ get_or gone i d
+    → mid ≡ before ++ flat_map f (map as_entry (take i gone)) → now ≡ mid ++ f (as_entry e) → now ≡ before ++ flat_map f (map as_entry (take (i + 1) gone))
+one_folded f before mid now gone i e d inside is first then =
+    then ∙ ap (λ (text : List ℕ). text ++ f (as_entry e)) first
+    ∙ ap (λ (x : Folded). (before ++ flat_map f (map as_entry (take i gone))) ++ f (as_entry x)) is
+    ∙ flat_map_more f before (map as_entry (take i gone)) (as_entry (get_or gone i d))
+    ∙ ap (λ (xs : List Entry). before ++ flat_map f xs)
+    (sym (map-append as_entry (take i gone) (get_or gone i d ∷ [])) ∙ ap (map as_entry) (sym (take_more gone i d inside)))
 
 -- what is written of the folded entries and then of the others is written of all entries
 both_lines : (f : Entry → List ℕ) (n : ℕ) (entries : List Entry) (before : List ℕ) → (before ++ flat_map f (take n entries)) ++ flat_map f (drop n entries) ≡ before ++ flat_map f entries
