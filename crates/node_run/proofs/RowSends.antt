@@ -107,3 +107,7 @@ receipt_send = recorded_send receipt.the_field.row _ _ receipt.the_type.to_one (
 
 pub pass_send : (Q : RattleType) (g : Ghosts Q.Denot) → IsSend (pass.the_field Q g).row
 pass_send Q g = struct_send (shape (pass.the_type Q g)) (share.the_send Q g, (search (crosses, receipt_send) depth 10, (notes_send, tt)))
+
+-- a pass by itself, which is what a job gives back
+pub pass_row_send : (Q : RattleType) (g : Ghosts Q.Denot) → IsSend (pass.the_row Q g)
+pass_row_send Q g = recorded_send (pass.the_field Q g).row _ _ (pass.the_type Q g).to_one (pass_send Q g)
