@@ -120,6 +120,7 @@ pub fn path_at(alloc: Global, object: &Value) -> Result<Option<Text>, NoMemory>
     }
 }
 
+/// The text of the member `body`, or none where the object has no such member.
 pub fn body_at(alloc: Global, object: &Value) -> Result<Option<Text>, NoMemory>
     ensures { IfOk result (λ body. body ≡ body_at (view object.now)) }
 {

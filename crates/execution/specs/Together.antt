@@ -1,6 +1,6 @@
 -- Histories of services that call one another, and which of them are one legal execution.
 use Rattle.std.specs.Prelude.{ℕ, ◌≡◌, ◌⊎◌, Bool, true, List, [], ◌∷◌, Option, IsSomeAnd, All, Any, find, filter}
-use Rattle.lang_base.specs.Texts.{same_text}
+use Rattle.handler_run.specs.HandedOn.{same_text}
 use Rattle.handler_run.specs.HandedOn.{is_call}
 use Rattle.handler_run.specs.HandedOn.{Origin}
 use Rattle.handler_run.specs.HandedOn.{Outside, Call}

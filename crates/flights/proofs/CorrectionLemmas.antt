@@ -4,7 +4,7 @@ use Rattle.std.proofs.lemmas.Bool.{le-ltb}
 use Rattle.std.proofs.lemmas.Bool.Decides.{nat_tests}
 use Rattle.lang_lists.specs.Numbers.{RisesFrom}
 use Rattle.lang_lists.proofs.NumberLemmas.{at_least}
-use Rattle.lang_programs.specs.Numbered.{Numbered}
+use Rattle.handler_run.specs.HandedOn.{Numbered}
 use Rattle.flights.specs.Corrections.{corrected_flight, has_program}
 use Rattle.flights.specs.Numbers.{put_flight, with_flight, without_flight, IsRising}
 use Rattle.flights.specs.declared.flight.Flight.{Flight}

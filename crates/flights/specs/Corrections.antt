@@ -1,6 +1,6 @@
 -- Flights under another program.
 use Rattle.std.specs.Prelude.{ℕ, Bool, if◌then◌else◌, nat_eq}
-use Rattle.lang_programs.specs.Numbered.{Numbered}
+use Rattle.handler_run.specs.HandedOn.{Numbered}
 use Rattle.flights.specs.declared.flight.Flight.{Flight}
 
 -- the flight's program has this number

@@ -3,10 +3,10 @@ ghost use Rattle.std.specs.Prelude.{◌≡◌, IfOk};
 ghost use Rattle.flights.specs.Corrections.{corrected_flight, has_program};
 ghost use Rattle.flights.specs.Numbers.{awaited};
 
+use handler_run::Deployed;
 use lang_base::both;
 use lang_core::{CallMade, Copied, Inputs, NoMemory, Origin, Request, Seq, Shared};
 use lang_lists::Numbered;
-use lang_programs::Deployed;
 use repair_messages::copied_pair;
 use std::alloc::Global;
 

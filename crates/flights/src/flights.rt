@@ -6,9 +6,9 @@ ghost use Rattle.flights.specs.Corrections.{corrected_flight};
 ghost use Rattle.flights.specs.Numbers.{flight_in, without_flight, with_flight, IsRising, free_from, IsLeastFree, same_call_origin, is_flying};
 
 use crate::flight::{Flight, corrected};
+use handler_run::Deployed;
 use lang_core::{Name, NoMemory, Origin, Same, Shared};
 use lang_lists::Sorted;
-use lang_programs::Deployed;
 use std::alloc::Global;
 use std::marker::Model;
 

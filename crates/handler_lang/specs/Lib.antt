@@ -2,3 +2,4 @@ pub mod Numbers
 pub mod Reading
 pub mod Spelled
 pub mod Misfits
+pub mod HandedOn

@@ -6,6 +6,9 @@ mod printing;
 mod reading;
 mod refused;
 
+pub use lang_grammar::print_routes;
+pub use lang_reader::{ReadFailed, routes};
+pub use lang_tokens::lex;
 pub use printing::print_program;
 pub use reading::read_program;
 pub use refused::ProgramRefused;

@@ -14,3 +14,5 @@ pub use Rattle.lang_programs.specs.Numbered.{Numbered, block_code}
 pub use Rattle.lang_programs.specs.Settings.{with_program}
 pub use Rattle.lang_tree.specs.declared.program.Route.{Route}
 pub use Rattle.lang_tree.specs.declared.stmt.Block.{Block}
+pub use Rattle.lang_base.specs.Texts.{same_text}
+pub use Rattle.lang_programs.specs.Numbered.{Numbered}

@@ -12,6 +12,7 @@ mod steps;
 mod view;
 
 pub use handler::run;
+pub use lang_programs::Deployed;
 pub use lang_values::{Fault, MOST_READ_BYTES};
 pub use same::same_handler;
 pub use state::Ran;

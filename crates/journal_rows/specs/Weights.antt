@@ -1,6 +1,6 @@
 -- What rows weigh.
 use Rattle.std.specs.Prelude.{ℕ, ◌+◌, ◌-◌, ◌^◌, List, Option, Some, None, length, min, sum_by}
-use Rattle.lang_grammar.specs.Printing.{text_of}
+use Rattle.lang_programs.specs.HandedOn.{text_of}
 use Rattle.lang_core.specs.declared.request.Request.{Request}
 use Rattle.journal_rows.specs.declared.orders.Command.{Command}
 use Rattle.journal_rows.specs.declared.orders.Command.TheVariants.{Replace, Create, Deploy, Correct, Rules}

@@ -17,6 +17,7 @@ mod words;
 
 pub use callee::{AckedRow, AnsweredRow, AskedRow, TookHow, TookRow, WasConfirmedRow};
 pub use caller::{AckHow, ConfirmedRow, NotedRow, SawAckRow, SawAnswerRow, SawHow, SentRow};
+pub use lang_programs::ProgramText;
 pub use orders::{About, Command, OrderedRow};
 pub use row::Row;
 pub use rows::Rows;

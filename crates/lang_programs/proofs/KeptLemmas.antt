@@ -3,13 +3,13 @@ use Rattle.std.proofs.Common.{◌≡◌, ◌∙◌, ◌≤◌, ℕ, Bool, true, 
 use Rattle.std.specs.Prelude.{is_some, if◌then◌else◌}
 use Rattle.std.specs.List.{list_all}
 use Rattle.std.proofs.lemmas.Bool.Decides.{nat_tests}
-use Rattle.lang_tokens.specs.Lexing.{lex, tokens}
-use Rattle.lang_tokens.specs.Spelling.{is_held}
+use Rattle.handler_lang.specs.HandedOn.{lex, tokens}
+use Rattle.handler_lang.specs.HandedOn.{is_held}
 use Rattle.lang_tree.specs.Depths.{routes_fit}
 use Rattle.lang_tree.specs.declared.program.Route.{Route}
-use Rattle.lang_grammar.specs.Grammar.{program_tokens}
-use Rattle.lang_grammar.specs.Printing.{text_of}
-use Rattle.lang_reader.specs.Readers.{most, program_of}
+use Rattle.handler_lang.specs.HandedOn.{program_tokens}
+use Rattle.handler_lang.specs.HandedOn.{text_of}
+use Rattle.handler_lang.specs.HandedOn.{most, program_of}
 use Rattle.handler_lang.specs.Spelled.{Spells}
 use Rattle.handler_lang.proofs.AgainStmts.{routes_again, routes_count}
 use Rattle.handler_lang.proofs.Spelled.{printed_spells}

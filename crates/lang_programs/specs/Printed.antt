@@ -1,11 +1,11 @@
 -- Programs as they are kept: as the text that is printed of them.
 use Rattle.std.specs.Prelude.{◌≡◌, ℕ, Bool, true, List, [], length, Option, Some, None, is_some, Result, Ok, Err, nat_lt}
-use Rattle.lang_tokens.specs.Lexing.{lex, tokens}
+use Rattle.handler_lang.specs.HandedOn.{lex, tokens}
 use Rattle.lang_tree.specs.Depths.{routes_fit}
 use Rattle.lang_tree.specs.declared.program.Route.{Route}
-use Rattle.lang_grammar.specs.Printing.{text_of}
-use Rattle.lang_reader.specs.Readers.{program_of}
-use Rattle.lang_reader.specs.declared.stop.Stop.{Stop}
+use Rattle.handler_lang.specs.HandedOn.{text_of}
+use Rattle.handler_lang.specs.HandedOn.{program_of}
+use Rattle.handler_lang.specs.HandedOn.{Stop}
 use Rattle.handler_lang.specs.Spelled.{Spells}
 
 abbrev pub routes_or_none : Result (List Route) Stop → List Route

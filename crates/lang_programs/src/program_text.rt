@@ -1,14 +1,12 @@
 // Programs, kept as the text that is printed of them.
 ghost use Rattle.std.specs.Prelude.{◌≡◌, ◌↔◌, Some, None, true, IfOk, IsTrue, if◌then◌else◌};
 ghost use Rattle.lang_tree.specs.Depths.{routes_fit};
-ghost use Rattle.lang_grammar.specs.Printing.{text_of};
+ghost use Rattle.handler_lang.specs.HandedOn.{text_of};
 ghost use Rattle.lang_programs.specs.Printed.{IsKept, is_long, kept_program};
 
 use crate::stmts::same_routes;
+use handler_lang::{ReadFailed, lex, print_routes, routes};
 use lang_core::{Copied, LONGEST_TEXT, NoMemory, Program, Routes, Same, Text};
-use lang_grammar::print_routes;
-use lang_reader::{ReadFailed, routes};
-use lang_tokens::lex;
 use std::alloc::Global;
 use std::marker::Model;
 

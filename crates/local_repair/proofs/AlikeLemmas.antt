@@ -9,7 +9,7 @@ use Rattle.lang_core.specs.declared.request.Request.{Request}
 use Rattle.lang_core.specs.declared.request.Response.{Response}
 use Rattle.lang_core.specs.declared.setting.Setting.{Setting}
 use Rattle.lang_core.specs.declared.trace.Trace.{Trace}
-use Rattle.lang_programs.specs.Settings.{with_program}
+use Rattle.request_log.specs.HandedOn.{with_program}
 use Rattle.execution.specs.Executions.{survives, Act, IsPlayed, IsReplay, Replays}
 use Rattle.execution.specs.HandedOn.{handler_of, run_of, Done, GivesAll}
 use Rattle.execution.proofs.HandedOn.{runs_alike}

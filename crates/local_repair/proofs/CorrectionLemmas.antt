@@ -8,7 +8,7 @@ use Rattle.lang_core.specs.declared.cells.Cell.{Cell}
 use Rattle.lang_core.specs.declared.inputs.Inputs.{Inputs}
 use Rattle.lang_core.specs.declared.setting.Setting.{Setting}
 use Rattle.lang_core.specs.declared.writes.Write.{Write}
-use Rattle.lang_programs.specs.Settings.{with_program}
+use Rattle.request_log.specs.HandedOn.{with_program}
 use Rattle.request_log.specs.Entries.{corrected, has_program, is_alive, with_correction}
 use Rattle.request_log.specs.HandedOn.{Numbered}
 use Rattle.request_log.specs.declared.entry.Entry.{Entry}

@@ -15,7 +15,7 @@ use Rattle.lang_core.specs.contracts.request.Response as response
 use Rattle.lang_core.specs.declared.cells.Cell.{Cell}
 use Rattle.lang_core.specs.declared.trace.Read.{Read}
 use Rattle.lang_core.specs.declared.trace.Read.TheVariants.{Key, Scan}
-use Rattle.lang_programs.specs.Numbered.{block_code}
+use Rattle.request_log.specs.HandedOn.{block_code}
 use Rattle.execution.specs.HandedOn.{Gives, GivesAll, handler_of}
 use Rattle.request_log.specs.Entries.{is_alive}
 use Rattle.request_log.specs.declared.entry.Entry.{Entry}

@@ -1,7 +1,7 @@
 -- The program under which an entry runs, and the one under which its record was made.
 use Rattle.std.specs.Prelude.{◌≡◌, true}
 use Rattle.lang_core.specs.declared.setting.Setting.{Setting}
-use Rattle.lang_programs.specs.Settings.{with_program}
+use Rattle.request_log.specs.HandedOn.{with_program}
 use Rattle.execution.specs.HandedOn.{handler_of}
 use Rattle.request_log.specs.Entries.{is_alive}
 use Rattle.request_log.specs.declared.entry.Entry.{Entry}

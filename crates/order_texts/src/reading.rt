@@ -6,9 +6,8 @@ use crate::refused::{TextFault, line_refused, place_refused};
 use crate::text_order::TextOrder;
 use authorise_rules::{GivenRules, RulesRefused, read_given};
 use handler_lang::{ProgramRefused, read_program};
-use journal_rows::Command;
+use journal_rows::{Command, ProgramText};
 use lang_core::{NoMemory, Program, Shared, Text};
-use lang_programs::ProgramText;
 use std::alloc::Global;
 
 // A program as it is printed, in a block of its own.

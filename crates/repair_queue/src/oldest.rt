@@ -10,10 +10,10 @@ use crate::outstanding::{
     Aged, call_of, fetch_of, is_owed, is_to_fetch, is_unacknowledged, reply_of,
 };
 use call_registers::{Registers, Replies};
-use flights::Flight;
 use lang_core::Name;
 use lang_lists::AgeKey;
 use repair_messages::PostName;
+use service_events::Flight;
 
 fn older(first: Option<Aged>, post: Aged) -> Option<Aged>
     ensures { result ≡ older first post }

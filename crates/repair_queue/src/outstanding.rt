@@ -1,16 +1,16 @@
 // Which posts are outstanding, and since when.
 ghost use Rattle.std.specs.Prelude.{◌≡◌, map, nat_eq};
 ghost use Rattle.std.specs.List.{list_any};
-ghost use Rattle.flights.specs.declared.flight.Flight.{Flight as FlightValue};
+ghost use Rattle.service_events.specs.HandedOn.{Flight as FlightValue};
 ghost use Rattle.service_events.specs.Flying.{awaited};
 ghost use Rattle.service_events.specs.Posts.{is_owed, is_to_fetch, is_unacknowledged};
 ghost use Rattle.repair_queue.specs.Queue.{call_of, fetch_of, reply_of};
 
 use call_registers::{Register, Reply, owes_fetch};
-use flights::Flight;
 use lang_core::{Name, Same};
 use lang_lists::AgeKey;
 use repair_messages::PostName;
+use service_events::Flight;
 use std::marker::Model;
 
 /// A post that is outstanding, and the index in the journal from which on it is to be sent.

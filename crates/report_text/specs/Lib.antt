@@ -1,4 +1,5 @@
+pub mod Abouts
 pub mod Escapes
 pub mod Notices
 pub mod Reports
-pub mod Abouts
+pub mod HandedOn

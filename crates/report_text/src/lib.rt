@@ -14,5 +14,6 @@ pub use entries::{log_text, push_asked, push_response};
 pub use escapes::{push_body_behind, push_key};
 pub use notices::notices_text;
 pub use reading::unescaped;
+pub use repair_queue::notices;
 pub use rows::rows_text;
 pub use verdicts::verdict_text;

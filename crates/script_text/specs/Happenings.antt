@@ -1,7 +1,7 @@
 -- What is printed of what happens.
 use Rattle.std.specs.Prelude.{ℕ, List, [], ◌++◌, Bool, true, false, Option, Some, None, option_and_then, Result, Ok, Err, codes, decimal, slice_get, if◌then◌else◌}
-use Rattle.local_repair.specs.declared.stepped.Stepped.{Stepped}
-use Rattle.local_repair.specs.declared.stepped.Stepped.TheVariants.{Idle, Ran}
+use Rattle.service_events.specs.HandedOn.{Stepped}
+use Rattle.service_events.specs.HandedOn.{Idle, Ran}
 use Rattle.repair_messages.specs.Kinds.{kind_word, spelling}
 use Rattle.repair_messages.specs.Refusals.{has_number, word_text}
 use Rattle.repair_messages.specs.declared.posts.Post.{Post}

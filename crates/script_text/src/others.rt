@@ -5,10 +5,9 @@ ghost use Rattle.script_text.specs.Happenings.{abandoned_line, ordered_line, ste
 
 use crate::refusals::push_refused;
 use lang_core::{Name, NoMemory, Text};
-use local_repair::Stepped;
 use report_text::push_about;
 use request_names::push_id;
-use service_events::{OrderRefused, Ordered};
+use service_events::{OrderRefused, Ordered, Stepped};
 
 fn push_ran(text: &mut String, service: &Name, id: u64) -> Result<(), NoMemory>
     ensures { OnOk result (string_bytes text.new ≡ string_bytes text.old ++ step_line service.now (Stepped.Ran id true)) }

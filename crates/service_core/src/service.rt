@@ -284,8 +284,8 @@ impl Service {
     }
 
     /// The call for which a flight waits was answered: the flight goes on, and where it is committed it is with the request
-    /// and the inputs with which it arrived, under the program that it has. It is refused where the flight isn't there, or waits for another call or another
-    /// version of it.
+    /// and the inputs with which it arrived, under the program that it has. It is refused where the flight isn't there, or
+    /// waits for another call or another version of it.
     pub fn call_answered(
         &mut self,
         alloc: Global,

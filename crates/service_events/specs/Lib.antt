@@ -17,3 +17,4 @@ pub mod Ages
 pub mod Allowed
 pub mod Event
 pub mod Refusals
+pub mod HandedOn

@@ -10,6 +10,8 @@ mod refusals;
 
 pub use answers::{Arrived, Heard, Ordered, PostReply, PostWord, Posted, Taken};
 pub use event::{Done, Event};
+pub use flights::Flight;
+pub use local_repair::Stepped;
 pub use refusals::{
     AnswerRefused, ArriveRefused, CallRefused, GiveRefused, OrderRefused, PostRefused, TakeRefused,
 };

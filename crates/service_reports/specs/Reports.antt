@@ -1,8 +1,8 @@
 -- Reports of a service.
 use Rattle.std.specs.Prelude.{ℕ, List, Option}
-use Rattle.local_repair.specs.Current.{rows_after}
+use Rattle.service_events.specs.HandedOn.{rows_after}
 use Rattle.repair_messages.specs.declared.refusals.Refusal.{Refusal}
-use Rattle.repair_queue.specs.Held.{notices}
+use Rattle.report_text.specs.HandedOn.{notices}
 use Rattle.report_text.specs.Notices.{notices_text}
 use Rattle.report_text.specs.Reports.{log_text, rows_text}
 use Rattle.service_events.specs.State.{Kept, base, folded, me, unfolded}

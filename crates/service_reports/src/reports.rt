@@ -5,8 +5,7 @@ ghost use Rattle.service_reports.specs.Reports.{log_of_service, notices_of_servi
 use lang_core::{NoMemory, Text};
 use preview_core::Service;
 use repair_messages::Refusal;
-use repair_queue::notices;
-use report_text::{log_text, notices_text, rows_text};
+use report_text::{log_text, notices, notices_text, rows_text};
 use std::alloc::Global;
 
 /// Its rows.

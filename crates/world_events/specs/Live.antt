@@ -1,9 +1,9 @@
 -- Worlds in which nothing is repaired: each call of a request that is committed consumes what its callee answered, or its register says why not.
 use Rattle.std.specs.Prelude.{ℕ, ◌≡◌, ◌≤◌, ◌⊎◌, Bool, true, ◌||◌, List, [], ◌∷◌, Option, Some, None, IsSome, IfSome, IsSomeAnd, IfOk, All, filter, find, is_some}
 use Rattle.lang_core.specs.declared.trace.CallMade.{CallMade}
-use Rattle.request_log.specs.Entries.{has_id, has_origin}
-use Rattle.request_log.specs.declared.entry.Entry.{Entry}
-use Rattle.request_log.specs.declared.entry.Made.{Made}
+use Rattle.service_events.specs.HandedOn.{has_id, has_origin}
+use Rattle.service_events.specs.HandedOn.{Entry}
+use Rattle.service_events.specs.HandedOn.{Made}
 use Rattle.world_agreement.specs.HandedOn.{calls_of_made}
 use Rattle.journal_rows.specs.declared.row.Row.{Row}
 use Rattle.journal_rows.specs.declared.row.Row.TheVariants.{Answered, Sent, SawAnswer}

@@ -5,7 +5,7 @@ use Rattle.world_events.specs.Events.{after_event, after_events, answer_to}
 use Rattle.world_events.specs.Worlds.{World}
 use Rattle.world_events.specs.declared.event.Event.{Event}
 use Rattle.world_events.specs.declared.event.Event.TheVariants.{Deliver, Post as Posts, Step}
-use Rattle.world_laws.specs.Runs.{written}
+use Rattle.world_core.specs.HandedOn.{written}
 use Rattle.world_settle.specs.Doing.{AreOfSettling, IsSettled}
 use Rattle.world_settle.specs.Settles.{AreExchanges, AreRounds, EachInOrder, Follows, IsDelivered, IsExchange, IsPosting, IsRound, IsSettling, IsShare, IsStepping, Then, any_came, came, counted, entries_of, goes_on, has_work, how_many, is_done, is_post, is_run, names_of, others, outstanding_for, rounds_with_work}
 use Rattle.world_settle.specs.declared.settled.Settled.{Settled}

@@ -37,7 +37,7 @@ use Rattle.world_events.specs.declared.happened.What.{What}
 use Rattle.world_events.specs.declared.happened.What.TheVariants.{NextPost, Posted as WasPosted}
 use Rattle.world_events.specs.declared.packet.Packet.{Packet}
 use Rattle.world_events.specs.declared.packet.Packet.TheVariants.{Post as PostPacket, PostReply as PostReplyPacket}
-use Rattle.world_laws.specs.InHand.{written_at}
+use Rattle.world_core.specs.HandedOn.{written_at}
 use Rattle.world_settle.specs.Doing.{AllDiffer}
 use Rattle.world_settle.specs.Settles.{IsDelivered, IsExchange, any_came, came, is_done, outstanding_at, outstanding_for}
 use Rattle.world_settle.proofs.PostLemmas.{Sends, next_sends}

@@ -14,7 +14,7 @@ use Rattle.service_events.specs.Steps.{Stale, stale_in, step_by, step_event}
 use Rattle.service_events.specs.declared.event.Event.TheVariants.{Step as StepEvent}
 use Rattle.service_events.proofs.EventLaws.{event_fits}
 use Rattle.service_events.proofs.SearchLemmas.{found_all}
-use Rattle.world_laws.proofs.HandedOn.{step_as_many, step_further, step_steps, step_timely}
+use Rattle.world_core.proofs.HandedOn.{step_as_many, step_further, step_steps, step_timely}
 use Rattle.world_agreement.specs.Partners.{has_name, service_of}
 use Rattle.world_agreement.proofs.TimelyLaws.{joined_timely}
 use Rattle.world_events.specs.Events.{Turn, after_events, at_service, if_there, refused, repair_step_served, turn, turned}

@@ -14,7 +14,7 @@ use Rattle.world_events.specs.declared.event.Event.{Event}
 use Rattle.world_events.specs.declared.event.Event.TheVariants.{Deliver, Post as Posts}
 use Rattle.world_events.specs.declared.event.WorldStepRefused.{WorldStepRefused}
 use Rattle.world_events.specs.declared.happened.Happened.{Happened}
-use Rattle.world_laws.specs.InHand.{written_at}
+use Rattle.world_core.specs.HandedOn.{written_at}
 use Rattle.world_settle.specs.Doing.{AllDiffer, Comes, Delivers, DoesFirst, Exchanges, HaveHappened, added, noted, told_of}
 use Rattle.world_settle.specs.Settles.{IsDelivered, IsExchange, any_came, came, goes_on, is_done, is_post, is_run, is_work, outstanding_for}
 use Rattle.world_settle.specs.declared.came.Came.{Came}

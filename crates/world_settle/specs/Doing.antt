@@ -9,7 +9,7 @@ use Rattle.world_events.specs.Sound.{AllFew, AreFew, IsSound}
 use Rattle.world_events.specs.Worlds.{World}
 use Rattle.world_events.specs.declared.event.Event.{Event}
 use Rattle.world_events.specs.declared.happened.What.{What}
-use Rattle.world_laws.specs.InHand.{written_at}
+use Rattle.world_core.specs.HandedOn.{written_at}
 use Rattle.world_settle.specs.declared.came.Came.{Came}
 use Rattle.world_settle.specs.declared.settled.Settled.{Settled}
 use Rattle.world_settle.specs.declared.tally.Tally.{Tally}

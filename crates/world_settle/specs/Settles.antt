@@ -15,7 +15,7 @@ use Rattle.world_events.specs.declared.event.Event.{Event}
 use Rattle.world_events.specs.declared.event.Event.TheVariants.{Deliver, Post as Posts, Step}
 use Rattle.world_events.specs.declared.happened.What.{What}
 use Rattle.world_events.specs.declared.happened.What.TheVariants.{NextPost, Posted, RepairStep}
-use Rattle.world_laws.specs.Runs.{written}
+use Rattle.world_core.specs.HandedOn.{written}
 use Rattle.world_settle.specs.declared.settled.Settled.{Settled}
 
 -- ---- what happened

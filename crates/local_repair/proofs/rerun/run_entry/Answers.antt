@@ -2,7 +2,7 @@ use Rattle.std.proofs.Common.{◌∙◌, ap}
 use Rattle.std.proofs.lemmas.Result.{IfOk-weaker}
 use Rattle.lang_core.specs.declared.inputs.Inputs.{Inputs}
 use Rattle.lang_core.specs.declared.request.Request.{Request}
-use Rattle.lang_programs.specs.Settings.{with_program}
+use Rattle.request_log.specs.HandedOn.{with_program}
 use Rattle.execution.specs.HandedOn.{run_of}
 use Rattle.local_repair.specs.Programs.{setting_of}
 use Rattle.local_repair.proofs.rerun.run_entry.Goals as goal

@@ -1,8 +1,8 @@
 use Rattle.std.proofs.Common.{◌≡◌, ◌∙◌, ap, map, sym, ℕ}
 use Rattle.std.proofs.lemmas.Result.{IfOk-weaker}
 use Rattle.lang_core.specs.declared.request.Response.{Response}
-use Rattle.lang_programs.specs.Numbered.{Numbered}
-use Rattle.lang_programs.specs.Settings.{with_program}
+use Rattle.service_events.specs.HandedOn.{Numbered}
+use Rattle.service_events.specs.HandedOn.{with_program}
 use Rattle.handler_run.specs.Handlers.{run_of}
 use Rattle.local_repair.specs.Current.{rows_after}
 use Rattle.local_repair.specs.Steps.{answer_or_tentative}
