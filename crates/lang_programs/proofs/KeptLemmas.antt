@@ -2,6 +2,7 @@
 use Rattle.std.proofs.Common.{◌≡◌, ◌∙◌, ◌≤◌, ℕ, Bool, true, false, List, length, Option, Some, None, Ok, refl, sym, ap, subst, arith}
 use Rattle.std.specs.Prelude.{is_some, if◌then◌else◌}
 use Rattle.std.specs.List.{list_all}
+use Rattle.std.proofs.lemmas.Bool.{cond-true}
 use Rattle.std.proofs.lemmas.Bool.Decides.{nat_tests}
 use Rattle.handler_lang.specs.HandedOn.{lex, tokens}
 use Rattle.handler_lang.specs.HandedOn.{is_held}
@@ -13,7 +14,7 @@ use Rattle.handler_lang.specs.HandedOn.{most, program_of}
 use Rattle.handler_lang.specs.Spelled.{Spells}
 use Rattle.handler_lang.proofs.AgainStmts.{routes_again, routes_count}
 use Rattle.handler_lang.proofs.Spelled.{printed_spells}
-use Rattle.lang_programs.specs.Printed.{IsKept, is_long, kept_program, routes_or_none}
+use Rattle.lang_programs.specs.Printed.{IsKept, fitting, is_long, kept_program, program_in, routes_or_none}
 
 -- a text that isn't long is read as what it spells
 spelled_is_read : (text : List ℕ) (p : List Route) → Spells text p → routes_fit p ≡ true → is_long text ≡ false → program_of (tokens (lex text)) ≡ Ok p
@@ -24,6 +25,10 @@ spelled_is_read text p spells fits short =
 -- a text that is kept alone is read back
 pub read_back : (text : List ℕ) → IsKept None text (kept_program None text) → program_of (tokens (lex text)) ≡ Ok (kept_program None text)
 read_back text kept = spelled_is_read text (kept_program None text) kept.spells kept.fits (sym kept.beside)
+
+-- a printed text that isn't long is read as the program
+pub printed_is_read : (p : List Route) → list_all is_held (program_tokens p) ≡ true → routes_fit p ≡ true → is_long (text_of p) ≡ false → program_in (text_of p) ≡ Some p
+printed_is_read p held fits short = ap fitting (spelled_is_read (text_of p) p (printed_spells p fits held) fits short) ∙ cond-true (routes_fit p) (Some p) None fits
 
 -- what is kept of a program
 module _ (text : List ℕ) (p : List Route) (printed : text ≡ text_of p) (held : list_all is_held (program_tokens p) ≡ true) (fits : routes_fit p ≡ true) where

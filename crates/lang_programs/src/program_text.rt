@@ -2,7 +2,7 @@
 ghost use Rattle.std.specs.Prelude.{◌≡◌, ◌↔◌, Some, None, true, IfOk, IsTrue, if◌then◌else◌};
 ghost use Rattle.lang_tree.specs.Depths.{routes_fit};
 ghost use Rattle.handler_lang.specs.HandedOn.{text_of};
-ghost use Rattle.lang_programs.specs.Printed.{IsKept, is_long, kept_program};
+ghost use Rattle.lang_programs.specs.Printed.{IsKept, is_long, kept_program, program_in};
 
 use crate::stmts::same_routes;
 use handler_lang::{ReadFailed, lex, print_routes, routes};
@@ -69,6 +69,12 @@ fn program_from(routes: Routes) -> Program
     }
 }
 
+fn fitting(routes: Routes) -> Option<Program>
+    ensures { result ≡ (if routes_fit routes then Some routes else None) }
+{
+    Program::new(routes).ok()
+}
+
 // The program of a text that is kept alone.
 #[tactic(auto, using(crate::proofs::KeptLemmas::read_back))]
 fn read_again(alloc: Global, text: &Text) -> Result<Program, NoMemory>
@@ -92,6 +98,19 @@ impl ProgramText {
         let text = print_routes(alloc, program.routes())?;
         let tree = tree_beside(alloc, &text, program)?;
         Ok(ProgramText { text, tree })
+    }
+
+    /// The program whose words stand in a text of any length, or none where they are no program: more than 65,536 words, or
+    /// blocks too deep. A text that is printed of a program is read as that program, unless it has more words.
+    pub fn read(alloc: Global, text: &Text) -> Result<Option<Program>, NoMemory>
+        ensures { IfOk result (λ read. read ≡ program_in text.now) }
+    {
+        let found = lex(alloc, text.as_bytes())?;
+        match routes(alloc, found.tokens.as_slice()) {
+            Ok(routes) => Ok(fitting(routes)),
+            Err(ReadFailed::NoMemory) => Err(NoMemory),
+            Err(ReadFailed::At(_)) => Ok(None),
+        }
     }
 
     /// The text that is printed of it.
