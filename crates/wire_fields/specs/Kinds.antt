@@ -7,7 +7,7 @@ use Rattle.lang_tree.specs.declared.method.Method.TheVariants.{Get, Put, Post, D
 use Rattle.http_header.specs.FieldValue.{FieldValue}
 use Rattle.http_header.specs.HeaderMap.{Entries, get}
 use Rattle.wire_fields.specs.declared.console.ConsoleWord.{ConsoleWord}
-use Rattle.wire_fields.specs.declared.console.ConsoleWord.TheVariants.{Cancel, Restore, Replace, Create, Retry, Fold, Deploy, Correct, Rules, Notices, Log, Rows, Programs, Preview, Rehearse, Audit, Stop}
+use Rattle.wire_fields.specs.declared.console.ConsoleWord.TheVariants.{Cancel, Restore, Replace, Create, Retry, Fold, Deploy, Correct, Rules, Notices, Log, Rows, Programs, Changed, Preview, Rehearse, Audit, Stop}
 use Rattle.wire_fields.specs.declared.kinds.RequestKind.{RequestKind}
 use Rattle.wire_fields.specs.declared.kinds.RequestKind.TheVariants.{Call, Console, Fetch, Outside, Set, Token}
 
@@ -26,11 +26,12 @@ console_word word =
     else (if same_text word (codes "log") then Some Log
     else (if same_text word (codes "rows") then Some Rows
     else (if same_text word (codes "programs") then Some Programs
+    else (if same_text word (codes "changed") then Some Changed
     else (if same_text word (codes "preview") then Some Preview
     else (if same_text word (codes "rehearse") then Some Rehearse
     else (if same_text word (codes "audit") then Some Audit
     else (if same_text word (codes "stop") then Some Stop
-    else None))))))))))))))))
+    else None)))))))))))))))))
 
 abbrev pub console_path : List ℕ → Option RequestKind
 console_path path = if starts_with nat_eq path (codes "/aire/console/") then option_map Console (console_word (drop 14 path)) else None

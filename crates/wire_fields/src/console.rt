@@ -22,6 +22,7 @@ pub enum ConsoleWord {
     Log,
     Rows,
     Programs,
+    Changed,
     Preview,
     Rehearse,
     Audit,
@@ -88,6 +89,8 @@ pub fn console_word(word: &[u8]) -> Option<ConsoleWord>
         Some(ConsoleWord::Rows)
     } else if word == b"programs".as_slice() {
         Some(ConsoleWord::Programs)
+    } else if word == b"changed".as_slice() {
+        Some(ConsoleWord::Changed)
     } else if word == b"preview".as_slice() {
         Some(ConsoleWord::Preview)
     } else if word == b"rehearse".as_slice() {
