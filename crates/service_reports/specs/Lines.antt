@@ -41,10 +41,14 @@ call_text s (OfReply id) = option_map_or (λ (p : Reply). id_text p.caller p.num
 abbrev pub post_line : Kept → PostOne → List ℕ
 post_line s p = codes "would post " ++ (kind_word p.kind ++ (codes " " ++ (call_text s p.name ++ codes "\n")))
 
+-- the lines, or this one where there are none
+abbrev pub or_line : List ℕ → List ℕ → List ℕ
+or_line line [] = line
+or_line line (b ∷ bytes) = b ∷ bytes
+
 -- the lines, or `would nothing` where there are none
 abbrev pub or_nothing : List ℕ → List ℕ
-or_nothing [] = codes "would nothing\n"
-or_nothing (b ∷ bytes) = b ∷ bytes
+or_nothing lines = or_line (codes "would nothing\n") lines
 
 abbrev pub shown_text : Kept → Preview → List ℕ
 shown_text s p = flat_map (run_line (me s)) p.ran ++ (flat_map row_line p.rows ++ flat_map (post_line s) p.posts)

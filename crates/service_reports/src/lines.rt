@@ -1,7 +1,7 @@
 // What a preview shows, as lines.
 ghost use Rattle.std.specs.Prelude.{◌≡◌, ◌++◌, IfOk, OnOk, string_bytes};
 ghost use Rattle.std.specs.List.{flat_map};
-ghost use Rattle.service_reports.specs.Lines.{call_text, or_nothing, place_text, post_line, row_line, run_line, shown_text};
+ghost use Rattle.service_reports.specs.Lines.{call_text, or_line, or_nothing, place_text, post_line, row_line, run_line, shown_text};
 
 use lang_core::{Name, NoMemory, Text, Write};
 use preview_core::{PostOne, Preview, RanOne, Service};
@@ -104,12 +104,12 @@ fn push_shown(text: &mut String, service: &Service, shown: &Preview) -> Result<(
     push_posts(text, service, shown.posts.as_slice())
 }
 
-// The lines, or `would nothing` where there are none.
-fn or_nothing(mut lines: String) -> Result<Text, NoMemory>
-    ensures { IfOk result (λ text. text ≡ or_nothing (string_bytes lines)) }
+/// The lines, or this one where there are none.
+pub(crate) fn or_line(mut lines: String, line: &str) -> Result<Text, NoMemory>
+    ensures { IfOk result (λ text. text ≡ or_line line.now (string_bytes lines)) }
 {
     if lines.is_empty() {
-        lines.push_str("would nothing\n")?;
+        lines.push_str(line)?;
     }
     Text::shared(lines)
 }
@@ -125,5 +125,5 @@ pub(crate) fn shown_lines(
 {
     let mut lines = String::new(alloc);
     push_shown(&mut lines, service, shown)?;
-    or_nothing(lines)
+    or_line(lines, "would nothing\n")
 }
