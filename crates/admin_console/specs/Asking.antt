@@ -142,6 +142,7 @@ report_named word.Notices = Some report.Notices
 report_named word.Log = Some report.Log
 report_named word.Rows = Some report.Rows
 report_named word.Programs = Some report.Programs
+report_named word.Changed = Some report.Changed
 report_named word = None
 
 -- a report, else what else is asked

@@ -24,6 +24,8 @@ pub enum Report {
     Rows,
     /// Its programs and its rules.
     Programs,
+    /// Its requests from outside whose last answer isn't the one that their client got.
+    Changed,
 }
 
 /// What an operator asks of one service.
@@ -270,6 +272,7 @@ fn report_named(word: ConsoleWord) -> Option<Report>
         ConsoleWord::Log => Some(Report::Log),
         ConsoleWord::Rows => Some(Report::Rows),
         ConsoleWord::Programs => Some(Report::Programs),
+        ConsoleWord::Changed => Some(Report::Changed),
         _ => None,
     }
 }
@@ -292,7 +295,7 @@ fn asked_at(alloc: Global, word: ConsoleWord, object: &Value) -> Result<Option<A
 /// - `deploy`: `token` and `program`, the text of a program;
 /// - `correct`: these, and `number`, that of the program that it corrects;
 /// - `rules`: `token` and `rules`, the text of rules;
-/// - `notices`, `log`, `rows` and `programs`: none.
+/// - `notices`, `log`, `rows`, `programs` and `changed`: none.
 ///
 /// None exactly where the body is no such object, or the word is one of the run. A text is read last, and it is told where it is
 /// none.

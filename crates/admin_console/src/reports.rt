@@ -8,7 +8,7 @@ use crate::replies::report_reply;
 use http_front::WireResponse;
 use lang_core::{NoMemory, Text};
 use repair_messages::Refusal;
-use service_reports::{Service, log_of, notices_of, programs_of, rows_of};
+use service_reports::{Service, changed_of, log_of, notices_of, programs_of, rows_of};
 use std::alloc::Global;
 
 fn report_of(
@@ -24,6 +24,7 @@ fn report_of(
         Report::Log => log_of(alloc, service),
         Report::Rows => rows_of(alloc, service),
         Report::Programs => programs_of(alloc, service),
+        Report::Changed => changed_of(alloc, service),
     }
 }
 

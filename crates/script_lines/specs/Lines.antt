@@ -19,7 +19,7 @@ use Rattle.world_events.specs.declared.event.Event.TheVariants as event
 use Rattle.order_texts.specs.declared.text_order.TextOrder.{TextOrder}
 use Rattle.order_texts.specs.declared.text_order.TextOrder.TheVariants.{Correct, Deploy, Rules}
 use Rattle.script_lines.specs.declared.line.Line.{Line}
-use Rattle.script_lines.specs.declared.line.Line.TheVariants.{Blank, Event, Given, Ask, Settle, Rows, Log, Notices, Preview, Programs, Rehearse, Dump, Audit}
+use Rattle.script_lines.specs.declared.line.Line.TheVariants.{Blank, Event, Given, Ask, Settle, Rows, Log, Notices, Preview, Programs, Changed, Rehearse, Dump, Audit}
 use Rattle.script_lines.specs.declared.line.LineFault.{LineFault}
 use Rattle.script_lines.specs.declared.line.LineFault.TheVariants.{Text, Word, Shape}
 
@@ -260,11 +260,12 @@ words_at word rest =
     else (if same_text word (codes "log") then shaped (service_at Log rest)
     else (if same_text word (codes "notices") then shaped (service_at Notices rest)
     else (if same_text word (codes "programs") then shaped (service_at Programs rest)
+    else (if same_text word (codes "changed") then shaped (service_at Changed rest)
     else (if same_text word (codes "preview") then shaped (preview_at rest)
     else (if same_text word (codes "rehearse") then shaped (rehearse_at rest)
     else (if same_text word (codes "dump") then shaped (at_end rest (Some Dump))
     else (if same_text word (codes "audit") then shaped (at_end rest (Some Audit))
-    else Err Word))))))))))))))))))))))))))
+    else Err Word)))))))))))))))))))))))))))
 
 -- an empty line or a comment
 abbrev pub is_passed_over : List ℕ → Bool

@@ -90,6 +90,10 @@ pub enum Line {
     Programs {
         service: Name,
     },
+    /// `changed S`: the requests from outside whose last answer isn't the one that their client got.
+    Changed {
+        service: Name,
+    },
     /// `rehearse S K WHO TEXT`: what would come of correcting the program of this number by the one that the text spells, which isn't
     /// read yet, and stepping until idle, with nothing done.
     Rehearse {

@@ -80,6 +80,15 @@ fn read_programs(alloc: Global, rest: Option<&str>) -> Result<Option<Line>, NoMe
     Ok(Some(Line::Programs { service }))
 }
 
+fn read_changed(alloc: Global, rest: Option<&str>) -> Result<Option<Line>, NoMemory>
+    ensures { IfOk result (λ r. r ≡ service_at Line.Changed (option_map (λ x. x.now) rest.entry)) }
+{
+    let Some(service) = read_service(alloc, rest)? else {
+        return Ok(None);
+    };
+    Ok(Some(Line::Changed { service }))
+}
+
 // The line of a word that stands alone.
 fn alone(rest: Option<&str>, line: Line) -> Option<Line>
     ensures { result ≡ at_end (option_map (λ x. x.now) rest.entry) (Some line) }
@@ -267,6 +276,7 @@ fn read_words(
         "log" => Ok(shaped(read_log(alloc, rest)?)),
         "notices" => Ok(shaped(read_notices(alloc, rest)?)),
         "programs" => Ok(shaped(read_programs(alloc, rest)?)),
+        "changed" => Ok(shaped(read_changed(alloc, rest)?)),
         "preview" => Ok(shaped(read_preview(alloc, rest)?)),
         "rehearse" => Ok(shaped(read_rehearse(alloc, rest)?)),
         "dump" => Ok(shaped(alone(rest, Line::Dump))),

@@ -22,7 +22,7 @@ use Rattle.world_settle.specs.declared.settled.Settled.{Settled}
 use Rattle.world_settle.proofs.ComeToEnd.{settled}
 use Rattle.script_lines.specs.Lines.{Read}
 use Rattle.script_lines.specs.declared.line.Line.{Line}
-use Rattle.script_lines.specs.declared.line.Line.TheVariants.{Blank, Event as One, Given, Ask, Settle, Rows, Log, Notices, Preview, Programs, Rehearse, Dump, Audit}
+use Rattle.script_lines.specs.declared.line.Line.TheVariants.{Blank, Event as One, Given, Ask, Settle, Rows, Log, Notices, Preview, Programs, Changed, Rehearse, Dump, Audit}
 use Rattle.script_lines.specs.declared.line.LineFault.{LineFault}
 use Rattle.script_lines.specs.declared.line.LineFault.TheVariants.{Service}
 use Rattle.script_run.specs.Counting.{printed}
@@ -47,6 +47,7 @@ has_events w (Log service) = ([], refl)
 has_events w (Notices service) = ([], refl)
 has_events w (Preview service id who) = ([], refl)
 has_events w (Programs service) = ([], refl)
+has_events w (Changed service) = ([], refl)
 has_events w (Rehearse service number who text) = ([], refl)
 has_events w Dump = ([], refl)
 has_events w Audit = ([], refl)
@@ -67,6 +68,7 @@ one_list w (Log service) xs ys a b = a ∙ sym b
 one_list w (Notices service) xs ys a b = a ∙ sym b
 one_list w (Preview service id who) xs ys a b = a ∙ sym b
 one_list w (Programs service) xs ys a b = a ∙ sym b
+one_list w (Changed service) xs ys a b = a ∙ sym b
 one_list w (Rehearse service number who text) xs ys a b = a ∙ sym b
 one_list w Dump xs ys a b = a ∙ sym b
 one_list w Audit xs ys a b = a ∙ sym b
@@ -118,6 +120,7 @@ has_said w (Notices service) events are = (_, refl)
 has_said w (Preview service id who) events are =
     shown_said (PrintsPreview (Cancel id) who) (has_preview (Cancel id) who) (service_of service w.services)
 has_said w (Programs service) events are = (_, refl)
+has_said w (Changed service) events are = (_, refl)
 has_said w (Rehearse service number who text) events are =
     let read = program_given text in
     shown_said (PrintsRehearsal number who read) (has_rehearsal number who read) (service_of service w.services)
@@ -145,6 +148,7 @@ one_said w (Notices service) events a b x y = x ∙ sym y
 one_said w (Preview service id who) events a b x y =
     one_shown_said (PrintsPreview (Cancel id) who) (one_preview (Cancel id) who) (service_of service w.services) a b x y
 one_said w (Programs service) events a b x y = x ∙ sym y
+one_said w (Changed service) events a b x y = x ∙ sym y
 one_said w (Rehearse service number who text) events a b x y =
     let read = program_given text in
     one_shown_said (PrintsRehearsal number who read) (one_rehearsal number who read) (service_of service w.services) a b x y
@@ -197,6 +201,7 @@ line_still w (Log service) events fault are e = none_still w events are
 line_still w (Notices service) events fault are e = none_still w events are
 line_still w (Preview service id who) events fault are e = none_still w events are
 line_still w (Programs service) events fault are e = none_still w events are
+line_still w (Changed service) events fault are e = none_still w events are
 line_still w (Rehearse service number who text) events fault are e = none_still w events are
 line_still w Dump events fault are e = none_still w events are
 line_still w Audit events fault are e = none_still w events are
@@ -222,6 +227,7 @@ line_live w (Log service) events live are = same_live events _ are tt
 line_live w (Notices service) events live are = same_live events _ are tt
 line_live w (Preview service id who) events live are = same_live events _ are tt
 line_live w (Programs service) events live are = same_live events _ are tt
+line_live w (Changed service) events live are = same_live events _ are tt
 line_live w (Rehearse service number who text) events live are = same_live events _ are tt
 line_live w Dump events live are = same_live events _ are tt
 line_live w Audit events live are = same_live events _ are tt

@@ -4,6 +4,7 @@ use Rattle.std.specs.List.{slice_split}
 use Rattle.report_text.specs.Reports.{verdict_text}
 use Rattle.service_events.specs.State.{Kept, me}
 use Rattle.order_texts.specs.Texts.{command_given, program_given}
+use Rattle.service_reports.specs.Changed.{changed_of_service}
 use Rattle.service_reports.specs.HandedOn.{Cancel}
 use Rattle.service_reports.specs.Programs.{programs_of_service}
 use Rattle.service_reports.specs.Reports.{log_of_service, notices_of_service, rows_of_service}
@@ -17,7 +18,7 @@ use Rattle.world_settle.specs.Doing.{AreOfSettling}
 use Rattle.script_lines.specs.Faults.{fault_number}
 use Rattle.script_lines.specs.Lines.{Read, line_at}
 use Rattle.script_lines.specs.declared.line.Line.{Line}
-use Rattle.script_lines.specs.declared.line.Line.TheVariants.{Blank, Event as One, Given, Ask, Settle, Rows, Log, Notices, Preview, Programs, Rehearse, Dump, Audit}
+use Rattle.script_lines.specs.declared.line.Line.TheVariants.{Blank, Event as One, Given, Ask, Settle, Rows, Log, Notices, Preview, Programs, Changed, Rehearse, Dump, Audit}
 use Rattle.script_lines.specs.declared.line.LineFault.TheVariants.{TooLong}
 use Rattle.script_run.specs.Audits.{verdict}
 use Rattle.script_run.specs.Counting.{nothing_said, printed, said_then}
@@ -43,6 +44,7 @@ AreEventsOf w (Log service) events = events ≡ []
 AreEventsOf w (Notices service) events = events ≡ []
 AreEventsOf w (Preview service id who) events = events ≡ []
 AreEventsOf w (Programs service) events = events ≡ []
+AreEventsOf w (Changed service) events = events ≡ []
 AreEventsOf w (Rehearse service number who text) events = events ≡ []
 AreEventsOf w Dump events = events ≡ []
 AreEventsOf w Audit events = events ≡ []
@@ -62,6 +64,7 @@ Says w (Notices service) events said = said ≡ report_of (notices_of_service No
 Says w (Given service order token who text) events said = said ≡ given_said w service (command_given order text) events
 Says w (Preview service id who) events said = SaysShown (PrintsPreview (Cancel id) who) (service_of service w.services) said
 Says w (Programs service) events said = said ≡ report_of programs_of_service (service_of service w.services)
+Says w (Changed service) events said = said ≡ report_of changed_of_service (service_of service w.services)
 Says w (Rehearse service number who text) events said =
     SaysShown (PrintsRehearsal number who (program_given text)) (service_of service w.services) said
 Says w Dump events said = said ≡ Ok (printed (dump_text w.services))

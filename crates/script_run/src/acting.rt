@@ -9,7 +9,7 @@ use crate::counts::Said;
 use crate::giving::given;
 use crate::previews::{previewed, rehearsed};
 use crate::printed::Printed;
-use crate::reports::{dump, log, notices, programs, rows, verdict_over};
+use crate::reports::{changed, dump, log, notices, programs, rows, verdict_over};
 use crate::settling::settle_all;
 use crate::telling::happen;
 use lang_core::NoMemory;
@@ -52,6 +52,7 @@ pub fn act(
         Line::Notices { service } => notices(alloc, world, &service),
         Line::Preview { service, id, who } => previewed(alloc, world, &service, id, &who),
         Line::Programs { service } => programs(alloc, world, &service),
+        Line::Changed { service } => changed(alloc, world, &service),
         Line::Rehearse {
             service,
             number,

@@ -11,6 +11,7 @@ ghost use Rattle.world_agreement.specs.Partners.{IsJoined, service_of};
 ghost use Rattle.script_run.specs.Audits.{SaysForged, verdict};
 ghost use Rattle.script_run.specs.Counting.{printed};
 ghost use Rattle.dump_lines.specs.Dumps.{dump_text};
+ghost use Rattle.service_reports.specs.Changed.{changed_of_service};
 ghost use Rattle.service_reports.specs.Reports.{log_of_service, notices_of_service, rows_of_service};
 ghost use Rattle.service_reports.specs.Programs.{programs_of_service};
 ghost use Rattle.script_run.specs.Plays.{audit_text};
@@ -23,7 +24,7 @@ use journal_rows::Verdict;
 use lang_core::{Name, NoMemory, Text};
 use report_text::verdict_text;
 use script_lines::LineFault;
-use service_reports::{log_of, notices_of, programs_of, rows_of};
+use service_reports::{changed_of, log_of, notices_of, programs_of, rows_of};
 use std::alloc::Global;
 use world_audit::audit;
 use world_settle::{Service, World, names_of};
@@ -72,6 +73,20 @@ pub fn programs(
 {
     match world.service(name) {
         Some(service) => Ok(Ok(Said::printed(Printed::report(programs_of(alloc, service)?)))),
+        None => Ok(Err(LineFault::Service)),
+    }
+}
+
+/// The requests from outside to the service of this name whose last answer isn't the one that their client got, if it is there.
+pub fn changed(
+    alloc: Global,
+    world: &World,
+    name: &Name,
+) -> Result<Result<Said, LineFault>, NoMemory>
+    ensures { IfOk result (λ said. said ≡ report_of changed_of_service (service_of name.now world.now.services)) }
+{
+    match world.service(name) {
+        Some(service) => Ok(Ok(Said::printed(Printed::report(changed_of(alloc, service)?)))),
         None => Ok(Err(LineFault::Service)),
     }
 }

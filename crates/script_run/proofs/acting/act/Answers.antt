@@ -19,6 +19,9 @@ returns-in-Preview-clause-early c = on_err _ (act_none c.args.world.now c.args.l
 pub returns-in-Programs-clause-early : goal.returns-in-Programs-clause-early
 returns-in-Programs-clause-early c = on_err _ (act_none c.args.world.now c.args.line)
 
+pub returns-in-Changed-clause-early : goal.returns-in-Changed-clause-early
+returns-in-Changed-clause-early c = on_err _ (act_none c.args.world.now c.args.line)
+
 pub returns-in-Rehearse-clause-early : goal.returns-in-Rehearse-clause-early
 returns-in-Rehearse-clause-early c = on_err _ (act_none c.args.world.now c.args.line)
 
