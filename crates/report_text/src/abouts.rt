@@ -2,7 +2,7 @@
 ghost use Rattle.std.specs.Prelude.{◌≡◌, ◌++◌, OnOk, string_bytes};
 ghost use Rattle.report_text.specs.Abouts.{about_text};
 
-use crate::notices::push_post_name;
+use crate::holds::push_post_name;
 use journal_rows::About;
 use lang_core::{Name, NoMemory};
 use request_names::push_id;

@@ -4,7 +4,7 @@
 mod abouts;
 mod entries;
 mod escapes;
-mod notices;
+mod holds;
 mod reading;
 mod rows;
 mod verdicts;
@@ -12,7 +12,7 @@ mod verdicts;
 pub use abouts::push_about;
 pub use entries::{log_text, push_asked, push_response};
 pub use escapes::{push_body_behind, push_key};
-pub use notices::notices_text;
+pub use holds::notices_text;
 pub use reading::unescaped;
 pub use repair_queue::notices;
 pub use rows::rows_text;
