@@ -151,7 +151,7 @@ fn push_asked_line(
     told: &Response,
     last: &Response,
 ) -> Result<(), NoMemory>
-    ensures { OnOk result (string_bytes text.new ≡ string_bytes text.old ++ asked_line me.now id (option_copied made) told.now last.now) }
+    ensures { OnOk result (string_bytes text.new ≡ string_bytes text.old ++ asked_line me.now id (option_copied made.entry) told.now last.now) }
 {
     match made {
         None => Ok(()),
