@@ -1,8 +1,8 @@
 #!/usr/bin/env bash
 # The story of a recovery over HTTP. Root leaves a switch for tests on at oauth, by which an intruder posts under another's name
 # at askbot, which pastes the post at dpaste. An operator follows it through the logs, looks at what a cancellation would take with
-# it, and cancels what let the intruder in; everybody else's posts stay. It prints what recover.out has, and ends with the
-# program's status, or 1 where it comes to no end.
+# it, and cancels what let the intruder in; everybody else's posts stay, and he sees whom to write to. It prints what recover.out
+# has, and ends with the program's status, or 1 where it comes to no end.
 #
 #   examples/recover.sh [PROGRAM]
 #
@@ -31,6 +31,9 @@ ask oauth cancel token=t1 id=2 | indented
 await_legal
 find_in_log askbot ''
 rows
+
+echo "Whom it concerned at askbot: what they were told, and what holds now:"
+ask askbot changed | indented
 
 echo "All stop, and each answer that was given has its one receipt:"
 end
