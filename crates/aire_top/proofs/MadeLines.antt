@@ -20,10 +20,10 @@ use Rattle.request_names.proofs.Parsed.{own}
 use Rattle.journal_rows.specs.declared.orders.Command.TheVariants.{Cancel}
 use Rattle.report_text.specs.Escapes.{byte_before, unescaped}
 use Rattle.world_events.specs.declared.event.Event.TheVariants as event
-use Rattle.script_run.specs.HandedOn.{asked, asking_at, at_end, body_of, cut_at, entry_order_at, is_asked_path, is_passed_over, line_at, number_at, numbered, numbered_at, order_of, order_parts, order_with, request_of, rest_or_empty, shaped, short_enough, where_good, with_part, with_word, words_at}
-use Rattle.script_run.specs.HandedOn.{Line}
-use Rattle.script_run.specs.HandedOn.{Ask, Event, Settle}
-use Rattle.script_run.proofs.HandedOn.{line_at-words}
+use Rattle.script_lines.specs.Lines.{asked, asking_at, at_end, body_of, cut_at, entry_order_at, is_asked_path, is_passed_over, line_at, number_at, numbered, numbered_at, order_of, order_parts, order_with, request_of, rest_or_empty, shaped, short_enough, where_good, with_part, with_word, words_at}
+use Rattle.script_lines.specs.declared.line.Line.{Line}
+use Rattle.script_lines.specs.declared.line.Line.TheVariants.{Ask, Event, Settle}
+use Rattle.script_lines.proofs.Outcomes.{line_at-words}
 use Rattle.script_run.specs.Plays.{lines_of}
 use Rattle.script_run.proofs.PlayLaws.{line_found}
 

@@ -12,8 +12,8 @@ use Rattle.world_events.specs.Worlds.{World}
 use Rattle.world_events.specs.declared.event.Event.{Event}
 use Rattle.world_events.specs.declared.event.Event.TheVariants.{Order}
 use Rattle.script_run.specs.HandedOn.{IsAsking}
-use Rattle.script_run.specs.HandedOn.{Read, line_at}
-use Rattle.script_run.specs.HandedOn.{Ask, Event as One, Settle}
+use Rattle.script_lines.specs.Lines.{Read, line_at}
+use Rattle.script_lines.specs.declared.line.Line.TheVariants.{Ask, Event as One, Settle}
 use Rattle.script_make.specs.Making.{ask_line, ask_lines, cancel_line, cancel_lines, made_script}
 use Rattle.script_run.specs.Plays.{AreEventsFor, GoesOn, IsRunOf, Played, Plays, RunsIfLong, SaysFor, is_long, lines_of}
 use Rattle.script_run.specs.Told.{LineAnswer, events_said, last_line, said_of}
